@@ -1,0 +1,9 @@
+-- The laws of the field.
+pub mod Below
+pub mod Sum
+pub mod Product
+pub mod Powers
+pub mod Conversions
+pub mod Turns
+pub mod Settled
+pub mod Examples

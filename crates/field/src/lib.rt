@@ -1,0 +1,6 @@
+// The field of 256 elements, and the two ways to write a symbol.
+mod arithmetic;
+mod representations;
+
+pub use arithmetic::{inverse, mul};
+pub use representations::{to_conventional, to_line};

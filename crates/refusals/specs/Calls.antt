@@ -1,0 +1,84 @@
+-- The eleven checks, and the order in which each of the eight calls makes them (document 01, "Refusal numbers and the order of checks").
+use mathlib.Core.Logic.{_≢_}
+use mathlib.Core.List.{List, [], _∷_, _++_}
+use Prim.Native.Nat.{ℕ, _-_, _*_, _<_}
+use Rattle.refusals.specs.Order.{Check, OneOf}
+use Rattle.refusals.specs.Sizes.{strengths, depths, rates, information, frameLength, blockLength, markedLength, symbolCount, octetsFor}
+
+abbrev pub strength : ℕ → Check
+strength e = (1, (OneOf strengths e → ⊥))
+
+abbrev pub depth : ℕ → Check
+depth i = (2, (OneOf depths i → ⊥))
+
+abbrev pub fill : ℕ → ℕ → Check
+fill e q = (3, information e - 1 < q)
+
+abbrev pub allowance : ℕ → ℕ → Check
+allowance e s = (4, e < s)
+
+-- 5 is given for a length that is not the one required, or over the limit.
+abbrev pub input : ℕ → ℕ → Check
+input len required = (5, len ≢ required)
+
+abbrev pub inputOver : ℕ → ℕ → Check
+inputOver limit len = (5, limit < len)
+
+abbrev pub output : ℕ → ℕ → Check
+output len required = (6, len ≢ required)
+
+abbrev pub rate : ℕ → Check
+rate r = (7, (OneOf rates r → ⊥))
+
+abbrev pub tolerance : ℕ → Check
+tolerance t = (8, 3 < t)
+
+abbrev pub marker : ℕ → ℕ → Check
+marker t wrong = (9, t < wrong)
+
+abbrev pub word : Type 0 → Check
+word uncorrectable = (10, uncorrectable)
+
+abbrev pub start : ℕ → ℕ → Check
+start from stream = (11, 8 * stream < from)
+
+-- The orders. A length is called by what it is the length of; `wrong` is the wrong bits of the four marker octets, and
+-- `uncorrectable` says that some word has no codeword with an all-zero fill within the allowance.
+abbrev pub wordParameters : ℕ → ℕ → ℕ → List Check
+wordParameters e i q = strength e ∷ depth i ∷ fill e q ∷ []
+
+abbrev pub encodeOrder : ℕ → ℕ → ℕ → ℕ → ℕ → List Check
+encodeOrder e i q frame block = strength e ∷ depth i ∷ fill e q ∷ input frame (frameLength e i q) ∷ output block (blockLength i q) ∷ []
+
+abbrev pub decodeParameters : ℕ → ℕ → ℕ → ℕ → ℕ → ℕ → List Check
+decodeParameters e i q s block frame =
+    strength e ∷ depth i ∷ fill e q ∷ allowance e s ∷ input block (blockLength i q) ∷ output frame (frameLength e i q) ∷ []
+
+abbrev pub decodeOrder : ℕ → ℕ → ℕ → ℕ → ℕ → ℕ → Type 0 → List Check
+decodeOrder e i q s block frame uncorrectable = decodeParameters e i q s block frame ++ (word uncorrectable ∷ [])
+
+abbrev pub randomiseOrder : ℕ → List Check
+randomiseOrder block = inputOver 2040 block ∷ []
+
+abbrev pub convolveOrder : ℕ → ℕ → ℕ → List Check
+convolveOrder r octets symbols = rate r ∷ inputOver 2044 octets ∷ output symbols (octetsFor (symbolCount r octets)) ∷ []
+
+abbrev pub markerParameters : ℕ → ℕ → List Check
+markerParameters t octets = tolerance t ∷ input octets 4 ∷ []
+
+abbrev pub markerOrder : ℕ → ℕ → ℕ → List Check
+markerOrder t octets wrong = markerParameters t octets ++ (marker t wrong ∷ [])
+
+abbrev pub searchOrder : ℕ → ℕ → ℕ → List Check
+searchOrder t stream from = tolerance t ∷ inputOver 65536 stream ∷ start from stream ∷ []
+
+abbrev pub transmitOrder : ℕ → ℕ → ℕ → ℕ → ℕ → List Check
+transmitOrder e i q frame marked = strength e ∷ depth i ∷ fill e q ∷ input frame (frameLength e i q) ∷ output marked (markedLength i q) ∷ []
+
+abbrev pub receiveParameters : ℕ → ℕ → ℕ → ℕ → ℕ → ℕ → ℕ → List Check
+receiveParameters e i q s t marked frame =
+    strength e ∷ depth i ∷ fill e q ∷ allowance e s ∷ tolerance t ∷ input marked (markedLength i q) ∷ output frame (frameLength e i q) ∷ []
+
+abbrev pub receiveOrder : ℕ → ℕ → ℕ → ℕ → ℕ → ℕ → ℕ → ℕ → Type 0 → List Check
+receiveOrder e i q s t marked frame wrong uncorrectable =
+    receiveParameters e i q s t marked frame ++ (marker t wrong ∷ word uncorrectable ∷ [])

@@ -1,0 +1,38 @@
+-- Legal numbers and required lengths (document 01, "Sizes", "Convolutional coder").
+use mathlib.Core.List.{List, [], _∷_}
+use Prim.Native.Nat.{ℕ, _+_, _-_, _*_, _/_}
+use lib.ListN.{getD}
+
+abbrev pub strengths : List ℕ
+strengths = 8 ∷ 16 ∷ []
+
+abbrev pub depths : List ℕ
+depths = 1 ∷ 2 ∷ 3 ∷ 4 ∷ 5 ∷ 8 ∷ []
+
+abbrev pub rates : List ℕ
+rates = 1 ∷ 2 ∷ 3 ∷ 4 ∷ 5 ∷ []
+
+-- k: the symbols of a full word that carry information, at strength e.
+abbrev pub information : ℕ → ℕ
+information e = 255 - 2 * e
+
+-- The octets of a frame, a block and a marked block, at depth i with fill q.
+abbrev pub frameLength : ℕ → ℕ → ℕ → ℕ
+frameLength e i q = (information e - q) * i
+
+abbrev pub blockLength : ℕ → ℕ → ℕ
+blockLength i q = (255 - q) * i
+
+abbrev pub markedLength : ℕ → ℕ → ℕ
+markedLength i q = blockLength i q + 4
+
+-- p: the bits of a puncture period at rates 1/2, 2/3, 3/4, 5/6 and 7/8, numbered from 1.
+abbrev pub period : ℕ → ℕ
+period rate = getD (1 ∷ 2 ∷ 3 ∷ 5 ∷ 7 ∷ []) (rate - 1) 1
+
+-- The symbols of n octets, 8n plus 8n/p rounded up; and the octets that hold so many symbols.
+abbrev pub symbolCount : ℕ → ℕ → ℕ
+symbolCount rate n = 8 * n + (8 * n + (period rate - 1)) / period rate
+
+abbrev pub octetsFor : ℕ → ℕ
+octetsFor symbols = (symbols + 7) / 8

@@ -1,0 +1,222 @@
+// Each call's checks of parameters and lengths, in the order of document 01.
+ghost use mathlib.Core.Path.{_≡_};
+ghost use mathlib.Core.List.{[], _∷_};
+ghost use Prim.Native.Nat.{_+_, _*_, _≤_, _<_};
+ghost use Rattle.refusals.specs.Order.{FirstOf, OneOf, Tells};
+ghost use Rattle.refusals.specs.Sizes.{period, strengths, depths, rates, information, frameLength, blockLength, symbolCount, octetsFor};
+ghost use Rattle.refusals.specs.Numbers.{verdictNumber};
+ghost use Rattle.refusals.specs.Calls.{input, output, wordParameters, encodeOrder, decodeParameters, randomiseOrder, convolveOrder, markerParameters, searchOrder, transmitOrder, receiveParameters};
+use crate::Parameter;
+use crate::Verdict;
+
+fn strength_legal(e: u32) -> bool
+    ensures { λ r. ⌜ Tells r (OneOf strengths e) ⌝ }
+{
+    if e == 8 {
+        return true;
+    }
+    if e == 16 {
+        return true;
+    }
+    false
+}
+
+fn depth_legal(depth: u32) -> bool
+    ensures { λ r. ⌜ Tells r (OneOf depths depth) ⌝ }
+{
+    if depth == 0 {
+        return false;
+    }
+    if depth <= 5 {
+        return true;
+    }
+    if depth == 8 {
+        return true;
+    }
+    false
+}
+
+fn rate_legal(rate: u32) -> bool
+    ensures { λ r. ⌜ Tells r (OneOf rates rate) ⌝ }
+{
+    if rate == 0 {
+        return false;
+    }
+    if rate <= 5 {
+        return true;
+    }
+    false
+}
+
+// Checks 1, 2 and 3, with which every call on words begins.
+fn word_parameters(e: u32, depth: u32, fill: u32) -> Verdict
+    ensures { λ r. ⌜ FirstOf (wordParameters e depth fill) (verdictNumber r) ⌝ }
+{
+    if !strength_legal(e) {
+        return Verdict::Refused(Parameter::Strength);
+    }
+    if !depth_legal(depth) {
+        return Verdict::Refused(Parameter::Depth);
+    }
+    if fill > 254 - 2 * e {
+        return Verdict::Refused(Parameter::Fill);
+    }
+    Verdict::Accepted
+}
+
+// Checks 5 and 6 of a call that requires both lengths.
+fn lengths(given_input: usize, required_input: usize, given_output: usize, required_output: usize) -> Verdict
+    ensures { λ r. ⌜ FirstOf (input «given_input» «required_input» ∷ output «given_output» «required_output» ∷ []) (verdictNumber r) ⌝ }
+{
+    if given_input != required_input {
+        return Verdict::Refused(Parameter::Input);
+    }
+    if given_output != required_output {
+        return Verdict::Refused(Parameter::Output);
+    }
+    Verdict::Accepted
+}
+
+// So many octets of each of the words.
+fn interleaved(symbols: u32, depth: u32) -> usize
+    requires { ⌜ (symbols ≤ 255) × (depth ≤ 8) ⌝ }
+    ensures { λ r. ⌜ (r ≡ symbols * depth) × (r ≤ 2040) ⌝ }
+{
+    (symbols * depth) as usize
+}
+
+fn frame_length(e: u32, depth: u32, fill: u32) -> usize
+    requires { ⌜ FirstOf (wordParameters e depth fill) 0 ⌝ }
+    ensures { λ r. ⌜ r ≡ frameLength e depth fill ⌝ }
+{
+    interleaved(255 - 2 * e - fill, depth)
+}
+
+fn block_length(e: u32, depth: u32, fill: u32) -> usize
+    requires { ⌜ FirstOf (wordParameters e depth fill) 0 ⌝ }
+    ensures { λ r. ⌜ (r ≡ blockLength depth fill) × (r ≤ 2040) ⌝ }
+{
+    interleaved(255 - fill, depth)
+}
+
+pub fn encode_parameters(e: u32, depth: u32, fill: u32, frame: usize, block: usize) -> Verdict
+    ensures { λ r. ⌜ FirstOf (encodeOrder e depth fill frame block) (verdictNumber r) ⌝ }
+{
+    let word = word_parameters(e, depth, fill);
+    if let Verdict::Refused(p) = word {
+        return Verdict::Refused(p);
+    }
+    lengths(frame, frame_length(e, depth, fill), block, block_length(e, depth, fill))
+}
+
+pub fn transmit_parameters(e: u32, depth: u32, fill: u32, frame: usize, marked: usize) -> Verdict
+    ensures { λ r. ⌜ FirstOf (transmitOrder e depth fill frame marked) (verdictNumber r) ⌝ }
+{
+    let word = word_parameters(e, depth, fill);
+    if let Verdict::Refused(p) = word {
+        return Verdict::Refused(p);
+    }
+    lengths(frame, frame_length(e, depth, fill), marked, block_length(e, depth, fill) + 4)
+}
+
+pub fn decode_parameters(e: u32, depth: u32, fill: u32, s: u32, block: usize, frame: usize) -> Verdict
+    ensures { λ r. ⌜ FirstOf (decodeParameters e depth fill s block frame) (verdictNumber r) ⌝ }
+{
+    let word = word_parameters(e, depth, fill);
+    if let Verdict::Refused(p) = word {
+        return Verdict::Refused(p);
+    }
+    if s > e {
+        return Verdict::Refused(Parameter::Allowance);
+    }
+    lengths(block, block_length(e, depth, fill), frame, frame_length(e, depth, fill))
+}
+
+pub fn receive_parameters(e: u32, depth: u32, fill: u32, s: u32, tolerance: u32, marked: usize, frame: usize) -> Verdict
+    ensures { λ r. ⌜ FirstOf (receiveParameters e depth fill s tolerance marked frame) (verdictNumber r) ⌝ }
+{
+    let word = word_parameters(e, depth, fill);
+    if let Verdict::Refused(p) = word {
+        return Verdict::Refused(p);
+    }
+    if s > e {
+        return Verdict::Refused(Parameter::Allowance);
+    }
+    if tolerance > 3 {
+        return Verdict::Refused(Parameter::Tolerance);
+    }
+    lengths(marked, block_length(e, depth, fill) + 4, frame, frame_length(e, depth, fill))
+}
+
+pub fn randomise_parameters(block: usize) -> Verdict
+    ensures { λ r. ⌜ FirstOf (randomiseOrder block) (verdictNumber r) ⌝ }
+{
+    if block > 2040 {
+        return Verdict::Refused(Parameter::Input);
+    }
+    Verdict::Accepted
+}
+
+// The bits of a puncture period.
+fn period_of(rate: u32) -> usize
+    requires { ⌜ OneOf rates rate ⌝ }
+    ensures { λ r. ⌜ r ≡ period rate ⌝ }
+{
+    match rate {
+        1 => 1,
+        2 => 2,
+        3 => 3,
+        4 => 5,
+        _ => 7,
+    }
+}
+
+fn symbols_of(rate: u32, octets: usize) -> usize
+    requires { ⌜ OneOf rates rate × (octets ≤ 2044) ⌝ }
+    ensures { λ r. ⌜ (r ≡ symbolCount rate octets) × (r ≤ 32704) ⌝ }
+{
+    let p = period_of(rate);
+    8 * octets + (8 * octets + (p - 1)) / p
+}
+
+pub fn convolve_parameters(rate: u32, octets: usize, symbols: usize) -> Verdict
+    ensures { λ r. ⌜ FirstOf (convolveOrder rate octets symbols) (verdictNumber r) ⌝ }
+{
+    if !rate_legal(rate) {
+        return Verdict::Refused(Parameter::Rate);
+    }
+    if octets > 2044 {
+        return Verdict::Refused(Parameter::Input);
+    }
+    if symbols != (symbols_of(rate, octets) + 7) / 8 {
+        return Verdict::Refused(Parameter::Output);
+    }
+    Verdict::Accepted
+}
+
+pub fn marker_parameters(tolerance: u32, octets: usize) -> Verdict
+    ensures { λ r. ⌜ FirstOf (markerParameters tolerance octets) (verdictNumber r) ⌝ }
+{
+    if tolerance > 3 {
+        return Verdict::Refused(Parameter::Tolerance);
+    }
+    if octets != 4 {
+        return Verdict::Refused(Parameter::Input);
+    }
+    Verdict::Accepted
+}
+
+pub fn search_parameters(tolerance: u32, stream: usize, start: u64) -> Verdict
+    ensures { λ r. ⌜ FirstOf (searchOrder tolerance stream start) (verdictNumber r) ⌝ }
+{
+    if tolerance > 3 {
+        return Verdict::Refused(Parameter::Tolerance);
+    }
+    if stream > 65536 {
+        return Verdict::Refused(Parameter::Input);
+    }
+    if start > 8 * (stream as u64) {
+        return Verdict::Refused(Parameter::Start);
+    }
+    Verdict::Accepted
+}

@@ -1,0 +1,38 @@
+// The refusals of document 01: their names, and the checks of parameters and lengths that the calls share.
+mod checks;
+
+pub use checks::{
+    convolve_parameters, decode_parameters, encode_parameters, marker_parameters, randomise_parameters, receive_parameters,
+    search_parameters, transmit_parameters,
+};
+
+// A parameter or a length that is not legal.
+pub enum Parameter {
+    Strength,
+    Depth,
+    Fill,
+    Allowance,
+    Input,
+    Output,
+    Rate,
+    Tolerance,
+    Start,
+}
+
+// The answer of a call that is refused for a parameter or a length only.
+pub enum Verdict {
+    Accepted,
+    Refused(Parameter),
+}
+
+// What the marker test refuses by.
+pub enum MarkerRefusal {
+    Parameters(Parameter),
+    WrongBits(u32),
+}
+
+// What decode refuses by.
+pub enum WordRefusal {
+    Parameters(Parameter),
+    NoCodeword(u32),
+}
