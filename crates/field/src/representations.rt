@@ -6,6 +6,7 @@ ghost use Rattle.field.specs.Field.{whereSet};
 ghost use Rattle.field.specs.Line.{timesMatrix, toLine, toConventional};
 
 const LINE_ROWS: [u8; 8] = [0x8D, 0xEF, 0xEC, 0x86, 0xFA, 0x99, 0xAF, 0x7B];
+
 const CONVENTIONAL_ROWS: [u8; 8] = [0xC5, 0x42, 0x2E, 0xFD, 0xF0, 0x79, 0xAC, 0xCC];
 
 fn row_where_set(rows: &[u8; 8], octet: u8, bit: usize) -> u8

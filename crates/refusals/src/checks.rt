@@ -3,7 +3,7 @@ ghost use mathlib.Core.Path.{_≡_};
 ghost use mathlib.Core.List.{[], _∷_};
 ghost use Prim.Native.Nat.{_+_, _*_, _≤_, _<_};
 ghost use Rattle.refusals.specs.Order.{FirstOf, OneOf, Tells};
-ghost use Rattle.refusals.specs.Sizes.{period, strengths, depths, rates, information, frameLength, blockLength, symbolCount, octetsFor};
+ghost use Rattle.refusals.specs.Sizes.{strengths, depths, rates, information, frameLength, blockLength, symbolCount, octetsFor};
 ghost use Rattle.refusals.specs.Numbers.{verdictNumber};
 ghost use Rattle.refusals.specs.Calls.{input, output, wordParameters, encodeOrder, decodeParameters, randomiseOrder, convolveOrder, markerParameters, searchOrder, transmitOrder, receiveParameters};
 use crate::Parameter;
@@ -65,7 +65,12 @@ fn word_parameters(e: u32, depth: u32, fill: u32) -> Verdict
 }
 
 // Checks 5 and 6 of a call that requires both lengths.
-fn lengths(given_input: usize, required_input: usize, given_output: usize, required_output: usize) -> Verdict
+fn lengths(
+    given_input: usize,
+    required_input: usize,
+    given_output: usize,
+    required_output: usize,
+) -> Verdict
     ensures { λ r. ⌜ FirstOf (input «given_input» «required_input» ∷ output «given_output» «required_output» ∷ []) (verdictNumber r) ⌝ }
 {
     if given_input != required_input {
@@ -106,7 +111,12 @@ pub fn encode_parameters(e: u32, depth: u32, fill: u32, frame: usize, block: usi
     if let Verdict::Refused(p) = word {
         return Verdict::Refused(p);
     }
-    lengths(frame, frame_length(e, depth, fill), block, block_length(e, depth, fill))
+    lengths(
+        frame,
+        frame_length(e, depth, fill),
+        block,
+        block_length(e, depth, fill),
+    )
 }
 
 pub fn transmit_parameters(e: u32, depth: u32, fill: u32, frame: usize, marked: usize) -> Verdict
@@ -116,10 +126,22 @@ pub fn transmit_parameters(e: u32, depth: u32, fill: u32, frame: usize, marked: 
     if let Verdict::Refused(p) = word {
         return Verdict::Refused(p);
     }
-    lengths(frame, frame_length(e, depth, fill), marked, block_length(e, depth, fill) + 4)
+    lengths(
+        frame,
+        frame_length(e, depth, fill),
+        marked,
+        block_length(e, depth, fill) + 4,
+    )
 }
 
-pub fn decode_parameters(e: u32, depth: u32, fill: u32, s: u32, block: usize, frame: usize) -> Verdict
+pub fn decode_parameters(
+    e: u32,
+    depth: u32,
+    fill: u32,
+    s: u32,
+    block: usize,
+    frame: usize,
+) -> Verdict
     ensures { λ r. ⌜ FirstOf (decodeParameters e depth fill s block frame) (verdictNumber r) ⌝ }
 {
     let word = word_parameters(e, depth, fill);
@@ -129,10 +151,23 @@ pub fn decode_parameters(e: u32, depth: u32, fill: u32, s: u32, block: usize, fr
     if s > e {
         return Verdict::Refused(Parameter::Allowance);
     }
-    lengths(block, block_length(e, depth, fill), frame, frame_length(e, depth, fill))
+    lengths(
+        block,
+        block_length(e, depth, fill),
+        frame,
+        frame_length(e, depth, fill),
+    )
 }
 
-pub fn receive_parameters(e: u32, depth: u32, fill: u32, s: u32, tolerance: u32, marked: usize, frame: usize) -> Verdict
+pub fn receive_parameters(
+    e: u32,
+    depth: u32,
+    fill: u32,
+    s: u32,
+    tolerance: u32,
+    marked: usize,
+    frame: usize,
+) -> Verdict
     ensures { λ r. ⌜ FirstOf (receiveParameters e depth fill s tolerance marked frame) (verdictNumber r) ⌝ }
 {
     let word = word_parameters(e, depth, fill);
@@ -145,7 +180,12 @@ pub fn receive_parameters(e: u32, depth: u32, fill: u32, s: u32, tolerance: u32,
     if tolerance > 3 {
         return Verdict::Refused(Parameter::Tolerance);
     }
-    lengths(marked, block_length(e, depth, fill) + 4, frame, frame_length(e, depth, fill))
+    lengths(
+        marked,
+        block_length(e, depth, fill) + 4,
+        frame,
+        frame_length(e, depth, fill),
+    )
 }
 
 pub fn randomise_parameters(block: usize) -> Verdict
@@ -157,26 +197,18 @@ pub fn randomise_parameters(block: usize) -> Verdict
     Verdict::Accepted
 }
 
-// The bits of a puncture period.
-fn period_of(rate: u32) -> usize
-    requires { ⌜ OneOf rates rate ⌝ }
-    ensures { λ r. ⌜ r ≡ period rate ⌝ }
-{
-    match rate {
-        1 => 1,
-        2 => 2,
-        3 => 3,
-        4 => 5,
-        _ => 7,
-    }
-}
-
 fn symbols_of(rate: u32, octets: usize) -> usize
     requires { ⌜ OneOf rates rate × (octets ≤ 2044) ⌝ }
     ensures { λ r. ⌜ (r ≡ symbolCount rate octets) × (r ≤ 32704) ⌝ }
 {
-    let p = period_of(rate);
-    8 * octets + (8 * octets + (p - 1)) / p
+    let bits = 8 * octets;
+    match rate {
+        1 => bits + bits,
+        2 => bits + (bits + 1) / 2,
+        3 => bits + (bits + 2) / 3,
+        4 => bits + (bits + 4) / 5,
+        _ => bits + (bits + 6) / 7,
+    }
 }
 
 pub fn convolve_parameters(rate: u32, octets: usize, symbols: usize) -> Verdict

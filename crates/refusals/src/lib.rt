@@ -1,10 +1,14 @@
 // The refusals of document 01: their names, and the checks of parameters and lengths that the calls share.
 mod checks;
 
-pub use checks::{
-    convolve_parameters, decode_parameters, encode_parameters, marker_parameters, randomise_parameters, receive_parameters,
-    search_parameters, transmit_parameters,
-};
+pub use checks::convolve_parameters;
+pub use checks::decode_parameters;
+pub use checks::encode_parameters;
+pub use checks::marker_parameters;
+pub use checks::randomise_parameters;
+pub use checks::receive_parameters;
+pub use checks::search_parameters;
+pub use checks::transmit_parameters;
 
 // A parameter or a length that is not legal.
 pub enum Parameter {

@@ -1,0 +1,86 @@
+-- What legal parameters say of the numbers.
+use mathlib.Core.Path.{_≡_, refl, sym, ap, _∙_}
+use mathlib.Core.Logic.{_≢_, _⊎_, inl, inr}
+use mathlib.Core.List.{List, [], _∷_}
+use Prim.Native.Nat.{ℕ, _-_, _≤_, _<_}
+use native.Mathlib.Omega.{arith}
+use native.Mathlib.Decide.{ℕ-discrete}
+use Rattle.refusals.specs.Order.{FirstOf, OneOf}
+use Rattle.refusals.specs.Sizes.{strengths, depths, rates, information}
+use Rattle.refusals.specs.Calls.{wordParameters}
+use Rattle.refusals.proofs.Orders.{one-of}
+
+-- The least and the largest number of a list bound every one of it.
+abbrev pub Within : ℕ → ℕ → List ℕ → Type 0
+Within low high [] = Unit {0}
+Within low high (m ∷ ms) = (low ≤ m) × (m ≤ high) × Within low high ms
+
+pub bounds : (low high : ℕ) (ms : List ℕ) → Within low high ms → (n : ℕ) → OneOf ms n → (low ≤ n) × (n ≤ high)
+bounds low high [] w n o = absurd o
+bounds low high (m ∷ ms) w n (inl e) = (omega arith, omega arith)
+bounds low high (m ∷ ms) w n (inr o) = bounds low high ms (w .2) n o
+
+pub strength-bounds : (e : ℕ) → OneOf strengths e → (8 ≤ e) × (e ≤ 16)
+strength-bounds = bounds 8 16 strengths (omega arith, omega arith, (omega arith, omega arith, tt))
+
+pub depth-bounds : (i : ℕ) → OneOf depths i → (1 ≤ i) × (i ≤ 8)
+depth-bounds =
+    bounds 1 8 depths
+    (omega arith, omega arith, (omega arith, omega arith, (omega arith, omega arith, (omega arith, omega arith, (omega arith, omega arith, (omega arith, omega arith, tt))))))
+
+pub rate-bounds : (r : ℕ) → OneOf rates r → (1 ≤ r) × (r ≤ 5)
+rate-bounds =
+    bounds 1 5 rates (omega arith, omega arith, (omega arith, omega arith, (omega arith, omega arith, (omega arith, omega arith, (omega arith, omega arith, tt)))))
+
+-- 1 to 5 are in a list that begins with them.
+pub first-five : (later : List ℕ) (n : ℕ) → n ≢ 0 → n ≤ 5 → OneOf (1 ∷ 2 ∷ 3 ∷ 4 ∷ 5 ∷ later) n
+first-five later n z h =
+    one-of (1 ∷ 2 ∷ 3 ∷ 4 ∷ 5 ∷ later) n
+    (λ k.
+    let one : n ≢ 1 = λ e. k (inl e) in
+    let two : n ≢ 2 = λ e. k (inr (inl e)) in
+    let three : n ≢ 3 = λ e. k (inr (inr (inl e))) in
+    let four : n ≢ 4 = λ e. k (inr (inr (inr (inl e)))) in
+    let five : n ≢ 5 = λ e. k (inr (inr (inr (inr (inl e))))) in
+    omega arith)
+
+-- A depth over 5 is 8.
+pub depth-cases : (i : ℕ) → OneOf depths i → 5 < i → i ≢ 8 → ⊥
+depth-cases i (inl e) h n = omega arith
+depth-cases i (inr (inl e)) h n = omega arith
+depth-cases i (inr (inr (inl e))) h n = omega arith
+depth-cases i (inr (inr (inr (inl e)))) h n = omega arith
+depth-cases i (inr (inr (inr (inr (inl e))))) h n = omega arith
+depth-cases i (inr (inr (inr (inr (inr (inl e)))))) h n = n e
+depth-cases i (inr (inr (inr (inr (inr (inr o)))))) h n = o
+
+-- A rate that is none of 1 to 4 is 5.
+pub last-rate : (r : ℕ) → OneOf rates r → r ≢ 1 → r ≢ 2 → r ≢ 3 → r ≢ 4 → r ≡ 5
+last-rate r o one two three four = omega (arith, rate-bounds r o .0, rate-bounds r o .1)
+
+-- What is known of the numbers once checks 1, 2 and 3 have passed.
+pub record LegalWords (e i q : ℕ) : Type 0 where
+  pub strength : OneOf strengths e
+  pub depth : OneOf depths i
+  pub weak : 8 ≤ e
+  pub strong : e ≤ 16
+  pub some : 1 ≤ i
+  pub deep : i ≤ 8
+  pub filled : q < information e
+
+pub legal-words : (e i q : ℕ) → FirstOf (wordParameters e i q) 0 → LegalWords e i q
+legal-words e i q (inl p) = absurd (omega (arith, p .1))
+legal-words e i q (inr (s, inl p)) = absurd (omega (arith, p .1))
+legal-words e i q (inr (s, inr (d, inl p))) = absurd (omega (arith, p .1))
+legal-words e i q (inr (s, inr (d, inr (f, a)))) =
+    let strong : OneOf strengths e = one-of strengths e s in
+    let deep : OneOf depths i = one-of depths i d in
+    record {
+      strength = strong;
+      depth = deep;
+      weak = strength-bounds e strong .0;
+      strong = strength-bounds e strong .1;
+      some = depth-bounds i deep .0;
+      deep = depth-bounds i deep .1;
+      filled = omega (arith, f, strength-bounds e strong .1);
+    }

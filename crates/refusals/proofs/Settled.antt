@@ -1,0 +1,73 @@
+-- Every public call of the crate is settled by its contract: two verdicts that one order permits are equal.
+use mathlib.Core.Path.{_≡_, refl, sym, ap, _∙_}
+use mathlib.Core.List.{List, [], _∷_}
+use Prim.Native.Nat.{ℕ}
+use native.Mathlib.Omega.{arith}
+use lib.ListN.{getD}
+use Rattle.refusals.specs.Order.{Check, FirstOf}
+use Rattle.refusals.specs.Numbers.{parameterNumber, verdictNumber}
+use Rattle.refusals.specs.Calls.{encodeOrder, decodeParameters, randomiseOrder, convolveOrder, markerParameters, searchOrder, transmitOrder, receiveParameters}
+use Rattle.refusals.specs.declared.Parameter.{Parameter}
+use Rattle.refusals.specs.declared.Parameter.the-variants.{Strength, Depth, Fill, Allowance, Input, Output, Rate, Tolerance, Start}
+use Rattle.refusals.specs.declared.Verdict.{Verdict}
+use Rattle.refusals.specs.declared.Verdict.the-variants.{Accepted, Refused}
+use Rattle.refusals.proofs.Orders.{first-unique}
+
+-- ---- a verdict is known by its number
+
+byNumber : List Verdict
+byNumber =
+    Accepted ∷ Refused Strength ∷ Refused Depth ∷ Refused Fill ∷ Refused Allowance ∷ Refused Input ∷ Refused Output ∷ Refused Rate ∷ Refused Tolerance
+    ∷ Accepted ∷ Accepted ∷ Refused Start ∷ []
+
+found : (v : Verdict) → getD byNumber (verdictNumber v) Accepted ≡ v
+unfolding byNumber
+found Accepted = refl
+found (Refused Strength) = refl
+found (Refused Depth) = refl
+found (Refused Fill) = refl
+found (Refused Allowance) = refl
+found (Refused Input) = refl
+found (Refused Output) = refl
+found (Refused Rate) = refl
+found (Refused Tolerance) = refl
+found (Refused Start) = refl
+
+pub verdict-known : (v w : Verdict) → verdictNumber v ≡ verdictNumber w → v ≡ w
+verdict-known v w e = sym (found v) ∙ ap (λ (n : ℕ). getD byNumber n Accepted) e ∙ found w
+
+pub parameter-known : (p q : Parameter) → parameterNumber p ≡ parameterNumber q → p ≡ q
+parameter-known p q e = let same : Refused p ≡ Refused q = verdict-known (Refused p) (Refused q) e in cc
+
+pub verdict-settled : (order : List Check) (v w : Verdict) → FirstOf order (verdictNumber v) → FirstOf order (verdictNumber w) → v ≡ w
+verdict-settled order v w p q = verdict-known v w (first-unique order (verdictNumber v) (verdictNumber w) p q)
+
+-- ---- so each call is settled
+
+module _ (v w : Verdict) where
+  abbrev Settled : List Check → Type 0
+  Settled order = FirstOf order (verdictNumber v) → FirstOf order (verdictNumber w) → v ≡ w
+
+  pub encode-parameters-settled : (e i q frame block : ℕ) → Settled (encodeOrder e i q frame block)
+  encode-parameters-settled e i q frame block = verdict-settled (encodeOrder e i q frame block) v w
+
+  pub transmit-parameters-settled : (e i q frame marked : ℕ) → Settled (transmitOrder e i q frame marked)
+  transmit-parameters-settled e i q frame marked = verdict-settled (transmitOrder e i q frame marked) v w
+
+  pub decode-parameters-settled : (e i q s block frame : ℕ) → Settled (decodeParameters e i q s block frame)
+  decode-parameters-settled e i q s block frame = verdict-settled (decodeParameters e i q s block frame) v w
+
+  pub receive-parameters-settled : (e i q s t marked frame : ℕ) → Settled (receiveParameters e i q s t marked frame)
+  receive-parameters-settled e i q s t marked frame = verdict-settled (receiveParameters e i q s t marked frame) v w
+
+  pub randomise-parameters-settled : (block : ℕ) → Settled (randomiseOrder block)
+  randomise-parameters-settled block = verdict-settled (randomiseOrder block) v w
+
+  pub convolve-parameters-settled : (r octets symbols : ℕ) → Settled (convolveOrder r octets symbols)
+  convolve-parameters-settled r octets symbols = verdict-settled (convolveOrder r octets symbols) v w
+
+  pub marker-parameters-settled : (t octets : ℕ) → Settled (markerParameters t octets)
+  marker-parameters-settled t octets = verdict-settled (markerParameters t octets) v w
+
+  pub search-parameters-settled : (t stream from : ℕ) → Settled (searchOrder t stream from)
+  search-parameters-settled t stream from = verdict-settled (searchOrder t stream from) v w
