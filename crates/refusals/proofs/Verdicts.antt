@@ -25,12 +25,15 @@ parameter-nonzero Rate = omega arith
 parameter-nonzero Tolerance = omega arith
 parameter-nonzero Start = omega arith
 
+pub same-verdict : (order : List Check) (v w : Verdict) → v ≡ w → FirstOf order (verdictNumber v) → FirstOf order (verdictNumber w)
+same-verdict order v w e f = subst (λ (x : Verdict). FirstOf order (verdictNumber x)) e f
+
 pub passed : (order : List Check) (v : Verdict) → v ≡ Accepted → FirstOf order (verdictNumber v) → FirstOf order 0
-passed order v e f = subst (λ (w : Verdict). FirstOf order (verdictNumber w)) e f
+passed order v e f = same-verdict order v Accepted e f
 
 pub stopped : (rest : Type 0) (front : List Check) (v : Verdict) (p : Parameter) → v ≡ Refused p → FirstOf front (verdictNumber v) → Begins front (parameterNumber p) rest
 stopped rest front v p e f =
-    first-stops rest front (parameterNumber p) (subst (λ (w : Verdict). FirstOf front (verdictNumber w)) e f) (parameter-nonzero p)
+    first-stops rest front (parameterNumber p) (same-verdict front v (Refused p) e f) (parameter-nonzero p)
 
 -- Checks 1, 2 and 3 passed: what comes after them decides.
 pub after-words : {rest : Type 0} (e i q n : ℕ) → FirstOf (wordParameters e i q) 0 → rest → Begins (wordParameters e i q) n rest

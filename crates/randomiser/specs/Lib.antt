@@ -1,0 +1,3 @@
+-- The pseudo-random sequence, and what the calls promise.
+pub mod Sequence
+pub mod Outcome
