@@ -4,11 +4,11 @@ use mathlib.Core.List.{List, [], _∷_}
 use Prim.Native.Nat.{ℕ, _/_, _%_, _^_, _<_}
 use native.Mathlib.Omega.{arith}
 use lib.ListN.{length}
-use lib.Dec.{T, eqb, eqb→eq, ltb, ltb→lt}
+use lib.Dec.{T, ltb, ltb→lt}
 use mathlib.Core.Bool.{Bool, true}
 use Rattle.field.specs.Field.{_⊕_, whereSet}
 use Rattle.field.specs.Line.{timesMatrix, lineRows, conventionalRows, toLine, toConventional}
-use Rattle.field.proofs.Below.{both, both-left, both-right, allBelow, at-below}
+use Rattle.field.proofs.Below.{both, both-left, both-right, equal-below}
 use Rattle.field.proofs.Sum.{⊕-octet, ⊕-mod, ⊕-shr, ⊕-zero, ⊕-swap, bit-of}
 use Rattle.field.proofs.Product.{whereSet-bit, whereSet-lt}
 
@@ -55,19 +55,13 @@ toConventional-lt = times-lt conventionalRows tt
 
 -- ---- each undoes the other: a test over all octets
 
-line-test : T (allBelow 256 (λ a. eqb (toConventional (toLine a)) a))
-unfolding toLine toConventional _⊕_ whereSet
-line-test = tt
-
-conventional-test : T (allBelow 256 (λ a. eqb (toLine (toConventional a)) a))
-unfolding toLine toConventional _⊕_ whereSet
-conventional-test = tt
-
 pub conventional-line : (a : ℕ) → a < 256 → toConventional (toLine a) ≡ a
-conventional-line a h = eqb→eq (toConventional (toLine a)) a (at-below (λ x. eqb (toConventional (toLine x)) x) 256 line-test a h)
+unfolding toLine toConventional _⊕_ whereSet
+conventional-line a h = equal-below (λ x. toConventional (toLine x)) (λ x. x) 256 tt a h
 
 pub line-conventional : (a : ℕ) → a < 256 → toLine (toConventional a) ≡ a
-line-conventional a h = eqb→eq (toLine (toConventional a)) a (at-below (λ x. eqb (toLine (toConventional x)) x) 256 conventional-test a h)
+unfolding toLine toConventional _⊕_ whereSet
+line-conventional a h = equal-below (λ x. toLine (toConventional x)) (λ x. x) 256 tt a h
 
 pub toConventional-zero : toConventional 0 ≡ 0
 unfolding toConventional _⊕_ whereSet

@@ -14,6 +14,10 @@ use Rattle.randomiser.specs.Outcome.{NextOutcome, RandomiseOutcome}
 pub next-settled : (before o a p b : ℕ) → NextOutcome before o a → NextOutcome before p b → (o ≡ p) × (a ≡ b)
 next-settled before o a p b x y = (x .given ∙ sym (y .given), x .left ∙ sym (y .left))
 
+-- the same contract, on the number
+pub next-bits-settled : (before o a p b : ℕ) → NextOutcome before o a → NextOutcome before p b → (o ≡ p) × (a ≡ b)
+next-bits-settled = next-settled
+
 pub randomise-settled : (before a b : List ℕ) (v w : Verdict) → RandomiseOutcome before v a → RandomiseOutcome before w b → (v ≡ w) × (a ≡ b)
 randomise-settled before a b v w x y = (same, buffers)
   where

@@ -6,9 +6,8 @@ use native.Mathlib.Numerals.{add-one}
 use native.Mathlib.Nat.{not-suc-le-zero, zero-add, add-zero, add-suc, suc-add, le-of-suc-le-suc}
 use native.Mathlib.Omega.{arith}
 use lib.Bits.{bitXor}
-use lib.Dec.{T, eqb, eqb→eq}
 use lib.ListN.{length, getD, set}
-use Rattle.field.proofs.Below.{allBelow, at-below}
+use Rattle.field.proofs.Below.{equal-below}
 use Rattle.randomiser.specs.Sequence.{bitAfter, bitOf, bitFrom, numberFrom, eightOn, sequenceOctet, addedFrom}
 
 -- ---- the step, by a test over all register contents
@@ -19,12 +18,9 @@ old bits = bitXor (bitXor (bitXor bits (bits * 8 % 256)) (bits * 32 % 256)) (bit
 unfoldable pub new : ℕ → ℕ
 new x = bitXor (bitXor (bitXor (bitXor x (x / 2)) (x / 4)) (x / 16)) (x / 32)
 
-step-test : T (allBelow 256 (λ bits. eqb (new (old bits)) (eightOn bits)))
-unfolding old new eightOn numberFrom bitFrom bitAfter
-step-test = tt
-
 pub step-is : (bits : ℕ) → bits < 256 → new (old bits) ≡ eightOn bits
-step-is bits h = eqb→eq (new (old bits)) (eightOn bits) (at-below (λ x. eqb (new (old x)) (eightOn x)) 256 step-test bits h)
+unfolding old new eightOn numberFrom bitFrom bitAfter
+step-is bits h = equal-below (λ x. new (old x)) eightOn 256 tt bits h
 
 -- ---- a block whose first octets have the sequence added, from octet n of the sequence on
 

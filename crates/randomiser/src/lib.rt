@@ -5,3 +5,4 @@ mod sequence;
 pub use blocks::randomise;
 pub use sequence::Register;
 pub use sequence::next;
+pub use sequence::next_bits;

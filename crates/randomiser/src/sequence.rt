@@ -25,7 +25,7 @@ pub fn next(register: &mut Register) -> u8
     octet
 }
 
-// The same on the number, for a register that stands in a local.
+// The same on the number that a register holds, for a caller whose register stands in a local.
 pub fn next_bits(bits: &mut u8) -> u8
     ensures { λ octet. ⌜ NextOutcome (now (bits .entry)) octet (now (bits .exit)) ⌝ }
 {

@@ -1,8 +1,8 @@
 -- How a call answers its order: by the verdict on checks 1 to 3, then by what comes after them.
 use mathlib.Core.Path.{_≡_, refl, sym, ap, _∙_, subst}
-use mathlib.Core.Logic.{_≢_, inl, inr}
+use mathlib.Core.Logic.{_≢_, _⊎_, inl, inr, ⊎-elim}
 use mathlib.Core.List.{List, [], _∷_, _++_}
-use Prim.Native.Nat.{ℕ}
+use Prim.Native.Nat.{ℕ, _<_}
 use native.Mathlib.Omega.{arith}
 use Rattle.refusals.specs.Order.{Check, FirstOf}
 use Rattle.refusals.specs.Numbers.{parameterNumber, verdictNumber}
@@ -13,17 +13,26 @@ use Rattle.refusals.specs.declared.Verdict.{Verdict}
 use Rattle.refusals.specs.declared.Verdict.the-variants.{Accepted, Refused}
 use Rattle.refusals.proofs.Orders.{Begins, first-stops, first-passes}
 
--- No parameter is refused by 0.
+-- Parameters are refused by 1 to 8 and by 11, so by neither 0, which is accepted, nor 9 nor 10, which are not about parameters.
+pub parameter-number : (p : Parameter) → ((0 < parameterNumber p) × (parameterNumber p < 9)) ⊎ (parameterNumber p ≡ 11)
+parameter-number Strength = inl (omega arith, omega arith)
+parameter-number Depth = inl (omega arith, omega arith)
+parameter-number Fill = inl (omega arith, omega arith)
+parameter-number Allowance = inl (omega arith, omega arith)
+parameter-number Input = inl (omega arith, omega arith)
+parameter-number Output = inl (omega arith, omega arith)
+parameter-number Rate = inl (omega arith, omega arith)
+parameter-number Tolerance = inl (omega arith, omega arith)
+parameter-number Start = inr refl
+
 pub parameter-nonzero : (p : Parameter) → parameterNumber p ≢ 0
-parameter-nonzero Strength = omega arith
-parameter-nonzero Depth = omega arith
-parameter-nonzero Fill = omega arith
-parameter-nonzero Allowance = omega arith
-parameter-nonzero Input = omega arith
-parameter-nonzero Output = omega arith
-parameter-nonzero Rate = omega arith
-parameter-nonzero Tolerance = omega arith
-parameter-nonzero Start = omega arith
+parameter-nonzero p z = ⊎-elim (λ low. omega arith) (λ last. omega arith) (parameter-number p)
+
+pub parameter-not-nine : (p : Parameter) → parameterNumber p ≢ 9
+parameter-not-nine p z = ⊎-elim (λ low. omega arith) (λ last. omega arith) (parameter-number p)
+
+pub parameter-not-ten : (p : Parameter) → parameterNumber p ≢ 10
+parameter-not-ten p z = ⊎-elim (λ low. omega arith) (λ last. omega arith) (parameter-number p)
 
 pub same-verdict : (order : List Check) (v w : Verdict) → v ≡ w → FirstOf order (verdictNumber v) → FirstOf order (verdictNumber w)
 same-verdict order v w e f = subst (λ (x : Verdict). FirstOf order (verdictNumber x)) e f

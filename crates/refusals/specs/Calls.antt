@@ -5,6 +5,7 @@ use Prim.Native.Nat.{ℕ, _-_, _*_, _<_}
 use Rattle.refusals.specs.Order.{Check, OneOf}
 use Rattle.refusals.specs.Sizes.{strengths, depths, rates, information, frameLength, blockLength, markedLength, symbolCount, octetsFor}
 
+-- The checks, each with its number; 5 has two forms, for a length that is not the one required and for one over the limit.
 abbrev pub strength : ℕ → Check
 strength e = (1, (OneOf strengths e → ⊥))
 
@@ -17,7 +18,6 @@ fill e q = (3, information e - 1 < q)
 abbrev pub allowance : ℕ → ℕ → Check
 allowance e s = (4, e < s)
 
--- 5 is given for a length that is not the one required, or over the limit.
 abbrev pub input : ℕ → ℕ → Check
 input len required = (5, len ≢ required)
 

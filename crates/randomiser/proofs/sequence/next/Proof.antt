@@ -1,6 +1,5 @@
 -- `randomiser::next` meets its contract: a walk of its MIR, by hand. The borrow is opened, the field is read, `step` is called on the number, the field is
 -- written with the result, and the borrow is closed at the record with it. All that is known of `step` is that it meets its contract.
--- Assumes nothing.
 use mathlib.Core.Path.{_≡_, refl, ap}
 use Prim.Native.Nat.{ℕ, _<_, _^_}
 use mathlib.Core.List.{[], _∷_, List}

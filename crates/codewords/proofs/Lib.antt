@@ -1,0 +1,20 @@
+-- The coding theory, and what it says of words as they stand on the line.
+pub mod Polynomials
+pub mod Roots
+pub mod Division
+pub mod ShortestRegister
+pub mod ErrorValues
+pub mod WordValues
+pub mod ErrorPatterns
+pub mod ErrorsFound
+pub mod NearCodewords
+pub mod Checks
+pub mod DoubtfulSymbols
+pub mod MarkedPlaces
+pub mod PlacedErrors
+pub mod DoubtfulErrors
+pub mod Corrections
+pub mod EnoughRoots
+pub mod RootCount
+pub mod LineWords
+pub mod Codewords

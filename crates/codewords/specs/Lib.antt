@@ -1,0 +1,2 @@
+-- Words and codewords.
+pub mod Words

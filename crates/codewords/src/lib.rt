@@ -1,0 +1,1 @@
+// Words and codewords: definitions and laws only.

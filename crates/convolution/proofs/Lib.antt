@@ -1,0 +1,11 @@
+-- The laws of the coder: its examples, its symbols and their number, how the code follows them, and that its contract settles it.
+pub mod Examples
+pub mod Symbols
+pub mod Count
+pub mod Settled
+pub mod Bits
+pub mod Packing
+pub mod Stream
+pub mod Closing
+pub mod Tables
+pub mod Outcomes

@@ -1,0 +1,28 @@
+-- `sum_by_g2` meets its contract, by a computed test of all windows.
+use Prim.Native.Nat.{_/_, _%_, _+_}
+use native.Mathlib.Nat.{mod-lt}
+use native.Mathlib.Omega.{arith}
+use borrow.Author.Needs.{needs}
+use Rattle.convolution.specs.Coder.{g2, ones}
+use Rattle.field.proofs.Below.{equal-below}
+use Rattle.convolution.proofs.sum_by_g2.Statement.{statement}
+use Rattle.convolution.proofs.sum_by_g2.Tie as tie
+
+add-result : tie.Need-add-result
+add-result c = search needs
+
+add-result-2 : tie.Need-add-result-2
+add-result-2 c = search needs
+
+add-result-3 : tie.Need-add-result-3
+add-result-3 c = search needs
+
+add-result-4 : tie.Need-add-result-4
+add-result-4 c = search needs
+
+returns : tie.Need-returns
+returns c =
+    (equal-below (λ w. (w + w / 4 + w / 8 + w / 32 + w / 64) % 2) (λ w. ones g2 w % 2) 128 tt (c .args .window) (search needs), mod-lt _ (omega arith))
+
+pub sum-by-g2-spec : {M : Type 1} → statement M
+sum-by-g2-spec = tie.close (tie.spec add-result add-result-2 add-result-3 add-result-4 returns)

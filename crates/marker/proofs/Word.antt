@@ -1,0 +1,116 @@
+-- The bits from a place on as a number, first bit highest: how it grows, splits and is put together from octets, and that the ones of its
+-- sum with the marker are the wrong bits.
+use mathlib.Core.Path.{_≡_, refl, ap, _∙_}
+use mathlib.Core.List.{List}
+use Prim.Native.Nat.{ℕ, zero, suc, _+_, _-_, _*_, _/_, _%_, _^_, _≤_, _<_}
+use native.Mathlib.Nat.{add-comm, add-suc, add-zero, div-div-eq-div-mul, pow-suc, mul-assoc, zero-add}
+use native.Mathlib.Omega.{arith}
+use lib.Bits.{bitXor, differ, xor-step}
+use lib.Count.{ones, ones-step}
+use lib.ListN.{getD}
+use Rattle.marker.specs.Place.{bitAt, marker, wrongAmong, wrongBits}
+
+-- The n bits from p on.
+unfoldable pub word : ℕ → List ℕ → ℕ → ℕ
+word zero s p = 0
+word (suc n) s p = word n s p * 2 + bitAt s (p + n)
+
+pub word-none : (s : List ℕ) (p : ℕ) → word 0 s p ≡ 0
+unfolding word
+word-none s p = refl
+
+pub word-more : (n : ℕ) (s : List ℕ) (p : ℕ) → word (suc n) s p ≡ word n s p * 2 + bitAt s (p + n)
+unfolding word
+word-more n s p = refl
+
+pub bit-small : (s : List ℕ) (p : ℕ) → bitAt s p < 2
+bit-small s p = omega arith
+
+pub word-small : (n : ℕ) (s : List ℕ) (p : ℕ) → word n s p < 2 ^ n
+unfolding word
+word-small zero s p = omega arith
+word-small (suc n) s p = rw pow-suc (omega (arith, word-small n s p, bit-small s (p + n)))
+
+pub word-split : (m n : ℕ) (s : List ℕ) (p : ℕ) → word (m + n) s p ≡ word m s p * 2 ^ n + word n s (p + m)
+unfolding word
+word-split m zero s p = simp add-zero (omega arith)
+word-split m (suc n) s p =
+    let at : p + (m + n) ≡ p + m + n = omega arith in
+    let more : word m s p * 2 ^ suc n ≡ word m s p * 2 ^ n * 2 = rw (pow-suc, mul-assoc) in
+    rw (add-suc m n, at) (omega (arith, word-split m n s p, more))
+
+-- ---- octets
+
+-- The place of bit b of octet i.
+pub bit-of-octet : (s : List ℕ) (i b : ℕ) → b < 8 → bitAt s (i * 8 + b) ≡ getD s i 0 / 2 ^ (7 - b) % 2
+bit-of-octet s i b h =
+    let octet : (i * 8 + b) / 8 ≡ i = omega arith in
+    let bit : (i * 8 + b) % 8 ≡ b = omega arith in
+    rw (octet, bit)
+
+-- The first j bits of an octet are what is left of it without the others.
+octet-front : (s : List ℕ) (i j : ℕ) → getD s i 0 < 256 → j ≤ 8 → word j s (i * 8) ≡ getD s i 0 / 2 ^ (8 - j)
+unfolding word
+octet-front s i zero h l = omega arith
+octet-front s i (suc j) h l =
+    let more : 8 - j ≡ suc (7 - j) = omega arith in
+    let less : 8 - suc j ≡ 7 - j = omega arith in
+    let halved : getD s i 0 / 2 ^ (8 - j) ≡ getD s i 0 / 2 ^ (7 - j) / 2 = rw (more, pow-suc, div-div-eq-div-mul) in
+    let front : word j s (i * 8) ≡ getD s i 0 / 2 ^ (8 - j) = octet-front s i j h (omega arith) in
+    rw (bit-of-octet s i j (omega arith), front, halved, less) (omega arith)
+
+-- The bits of i octets and one more.
+octet-more : (s : List ℕ) (i : ℕ) → getD s i 0 < 256 → word (i * 8 + 8) s 0 ≡ word (i * 8) s 0 * 256 + getD s i 0
+octet-more s i h = rw (word-split (i * 8) 8 s 0, zero-add (i * 8), octet-front s i 8 h (omega arith)) (omega arith)
+
+-- The four octets of the marker test, each entered behind the ones before.
+pub four-octets : (s : List ℕ) (a b c d : ℕ) → ((i : ℕ) → getD s i 0 < 256) → a ≡ 0 * 256 % 2 ^ 32 + getD s 0 0
+    → b ≡ a * 256 % 2 ^ 32 + getD s 1 0 → c ≡ b * 256 % 2 ^ 32 + getD s 2 0 → d ≡ c * 256 % 2 ^ 32 + getD s 3 0 → d ≡ word 32 s 0
+four-octets s a b c d small e f g h =
+    let none : word 0 s 0 ≡ 0 = word-none s 0 in
+    omega (
+      arith,
+      small 0,
+      small 1,
+      small 2,
+      small 3,
+      octet-more s 0 (small 0),
+      octet-more s 1 (small 1),
+      octet-more s 2 (small 2),
+      octet-more s 3 (small 3),
+    )
+
+-- ---- the ones
+
+differ-small : (x y : ℕ) → x < 2 → y < 2 → differ x y < 2
+differ-small zero y h k = k
+differ-small (suc zero) zero h k = omega arith
+differ-small (suc zero) (suc zero) h k = omega arith
+differ-small (suc zero) (suc (suc y)) h k = omega arith
+differ-small (suc (suc x)) y h k = omega arith
+
+ones-doubled : (a b x y : ℕ) → x < 2 → y < 2 → ones (bitXor (a * 2 + x) (b * 2 + y)) ≡ ones (bitXor a b) + differ x y
+ones-doubled a b x y h k =
+    let a′ : (a * 2 + x) / 2 ≡ a = omega arith in
+    let b′ : (b * 2 + y) / 2 ≡ b = omega arith in
+    let x′ : (a * 2 + x) % 2 ≡ x = omega arith in
+    let y′ : (b * 2 + y) % 2 ≡ y = omega arith in
+    let e : bitXor (a * 2 + x) (b * 2 + y) ≡ bitXor a b * 2 + differ x y = cc (xor-step (a * 2 + x) (b * 2 + y)) in
+    let half : (bitXor a b * 2 + differ x y) / 2 ≡ bitXor a b = omega (arith, differ-small x y h k) in
+    let last : (bitXor a b * 2 + differ x y) % 2 ≡ differ x y = omega (arith, differ-small x y h k) in
+    let o : ones (bitXor a b * 2 + differ x y) ≡ differ x y + ones (bitXor a b) = cc (ones-step (bitXor a b * 2 + differ x y)) in
+    ap ones e ∙ o ∙ add-comm (differ x y) (ones (bitXor a b))
+
+pub ones-wrong : (n : ℕ) (s : List ℕ) (p : ℕ) → ones (bitXor (word n s p) (word n marker 0)) ≡ wrongAmong n s p
+unfolding word wrongAmong ones
+ones-wrong zero s p = refl
+ones-wrong (suc n) s p =
+    rw (zero-add n) (ones-doubled (word n s p) (word n marker 0) _ _ (bit-small s (p + n)) (bit-small marker n)
+    ∙ ap (λ (x : ℕ). x + differ (bitAt s (p + n)) (bitAt marker n)) (ones-wrong n s p))
+
+marker-word : word 32 marker 0 ≡ 0x1ACFFC1D
+unfolding word
+marker-word = refl
+
+pub word-wrong : (s : List ℕ) (p : ℕ) → ones (bitXor (word 32 s p) 0x1ACFFC1D) ≡ wrongBits s p
+word-wrong s p = rw marker-word at (ones-wrong 32 s p)

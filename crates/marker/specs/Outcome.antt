@@ -1,0 +1,53 @@
+-- What the marker test and the search answer, for every input (document 01, "Marker, chains and search").
+use mathlib.Core.Path.{_≡_}
+use mathlib.Core.Logic.{_⊎_}
+use mathlib.Core.List.{List}
+use Prim.Native.Nat.{ℕ, _+_, _-_, _≤_}
+use lib.ListN.{length}
+use Rattle.refusals.specs.Order.{FirstOf}
+use Rattle.refusals.specs.Calls.{markerOrder, searchOrder}
+use Rattle.marker.specs.Place.{wrongBits, Place, Fits, NoneFits, remaining}
+use Rattle.marker.specs.Numbers.{testedNumber, testedValue, searchedNumber}
+use Rattle.marker.specs.declared.Tested.{Tested}
+use Rattle.marker.specs.declared.Searched.{Searched}
+use Rattle.marker.specs.declared.Searched.the-variants.{Found, Absent, Spent, Refused}
+
+-- The test checks in its order, and answers the wrong bits, accepted or refused by 9.
+pub record TestOutcome (tolerance : ℕ) (octets : List ℕ) (answer : Tested) : Type 0 where
+  pub number : FirstOf (markerOrder tolerance (length octets) (wrongBits octets 0)) (testedNumber answer)
+  pub value : (testedNumber answer ≡ 0) ⊎ (testedNumber answer ≡ 9) → testedValue answer ≡ wrongBits octets 0
+
+-- Found: the first place from the start on that fits, with its wrong bits; it and all before it were looked at.
+pub record FoundFirst (tolerance : ℕ) (stream : List ℕ) (start budget place wrong looked : ℕ) : Type 0 where
+  pub from : start ≤ place
+  pub inside : Place stream place
+  pub fits : Fits tolerance stream place
+  pub first : NoneFits tolerance stream start place
+  pub bits : wrong ≡ wrongBits stream place
+  pub counted : looked ≡ place - start + 1
+  pub affordable : looked ≤ budget
+
+-- Absent: every remaining place was looked at, and none fits.
+pub record NoneLeft (tolerance : ℕ) (stream : List ℕ) (start budget looked : ℕ) : Type 0 where
+  pub none : (p : ℕ) → start ≤ p → Place stream p → Fits tolerance stream p → ⊥
+  pub counted : looked ≡ remaining stream start
+  pub affordable : looked ≤ budget
+
+-- Spent: as many places as the budget were looked at, none fits, and the next one is a place still.
+pub record BudgetSpent (tolerance : ℕ) (stream : List ℕ) (start budget next looked : ℕ) : Type 0 where
+  pub inside : Place stream next
+  pub none : NoneFits tolerance stream start next
+  pub reached : next ≡ start + budget
+  pub counted : looked ≡ budget
+
+-- What the search has seen, by cases of an answer that is no refusal.
+abbrev pub Looked : ℕ → List ℕ → ℕ → ℕ → Searched → Type 0
+Looked tolerance stream start budget (Found place wrong looked) = FoundFirst tolerance stream start budget place wrong looked
+Looked tolerance stream start budget (Absent looked) = NoneLeft tolerance stream start budget looked
+Looked tolerance stream start budget (Spent next looked) = BudgetSpent tolerance stream start budget next looked
+Looked tolerance stream start budget (Refused p) = ⊥
+
+-- The search checks in its order, and then answers what it has seen.
+pub record SearchOutcome (tolerance : ℕ) (stream : List ℕ) (start budget : ℕ) (answer : Searched) : Type 0 where
+  pub number : FirstOf (searchOrder tolerance (length stream) start) (searchedNumber answer)
+  pub looked : searchedNumber answer ≡ 0 → Looked tolerance stream start budget answer

@@ -1,0 +1,29 @@
+// The 32 received bits at a place as a number, first bit highest, and its wrong bits.
+ghost use mathlib.Core.Path.{_≡_};
+ghost use Prim.Native.Nat.{_+_, _-_, _*_, _/_, _%_, _^_, _<_};
+ghost use lib.Bits.{bitXor};
+ghost use lib.Count.{ones};
+
+// Written as 1A CF FC 1D.
+const MARKER: u32 = 0x1ACFFC1D;
+
+pub fn wrong_bits(window: u32) -> u32
+    ensures { λ r. ⌜ r ≡ ones (bitXor window 0x1ACFFC1D) ⌝ }
+{
+    u32::count_ones(window ^ MARKER)
+}
+
+// The window moved on by one bit, bit b of the octet, top bit first; its first bit falls out.
+pub fn bit_entered(window: u32, octet: u8, b: usize) -> u32
+    requires { ⌜ b < 8 ⌝ }
+    ensures { λ r. ⌜ r ≡ window * 2 % 2 ^ 32 + octet / 2 ^ (7 - b) % 2 ⌝ }
+{
+    (window << 1) + ((octet >> (7 - b)) % 2) as u32
+}
+
+// The window moved on by a whole octet.
+pub fn octet_entered(window: u32, octet: u8) -> u32
+    ensures { λ r. ⌜ r ≡ window * 256 % 2 ^ 32 + octet ⌝ }
+{
+    (window << 8) + octet as u32
+}

@@ -1,0 +1,16 @@
+// Runs the small coders on the documents' tables, on worked cases, at every limit and one past it. The expected output is not
+// made by this code: docs/src/README.md says where each line comes from.
+mod convolving;
+mod limits;
+mod marking;
+mod print;
+mod randomising;
+mod symbols;
+
+fn main() {
+    symbols::all();
+    randomising::all();
+    marking::all();
+    convolving::all();
+    limits::all();
+}

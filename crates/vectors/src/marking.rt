@@ -1,0 +1,147 @@
+// The marker test and the search.
+use crate::print;
+use marker::Searched;
+use marker::Tested;
+use refusals::MarkerRefusal;
+
+fn tested(tolerance: u32, octets: &[u8]) {
+    print::text(b"marker");
+    match marker::test(tolerance, octets) {
+        Tested::Accepted(wrong) => {
+            print::number(0);
+            print::number(wrong as u64);
+        }
+        Tested::Refused(refusal) => match refusal {
+            MarkerRefusal::Parameters(p) => print::number(print::parameter(p)),
+            MarkerRefusal::WrongBits(wrong) => {
+                print::number(9);
+                print::number(wrong as u64);
+            }
+        },
+    }
+    print::end();
+}
+
+// Each tolerance, one past it and the largest number, on octets with no to four wrong bits and on zeros; then wrong lengths.
+fn tests_at(tolerance: u32) {
+    tested(tolerance, b"\x1A\xCF\xFC\x1D");
+    tested(tolerance, b"\x9A\xCF\xFC\x1D");
+    tested(tolerance, b"\x9A\xCF\xFC\x1C");
+    tested(tolerance, b"\x9A\xDF\xFC\x1C");
+    tested(tolerance, b"\x9A\xDF\xF4\x1C");
+    tested(tolerance, b"\x00\x00\x00\x00");
+    tested(tolerance, b"\xE5\x30\x03\xE2");
+    tested(tolerance, b"\x1A\xCF\xFC");
+    tested(tolerance, b"\x1A\xCF\xFC\x1D\x00");
+    tested(tolerance, b"");
+}
+
+fn searched(tolerance: u32, stream: &[u8], start: u64, budget: u64) {
+    print::text(b"search");
+    match marker::search(tolerance, stream, start, budget) {
+        Searched::Found {
+            place,
+            wrong,
+            looked,
+        } => {
+            print::text(b" found");
+            print::number(place);
+            print::number(wrong as u64);
+            print::number(looked);
+        }
+        Searched::Absent { looked } => {
+            print::text(b" absent");
+            print::number(looked);
+        }
+        Searched::Spent { place, looked } => {
+            print::text(b" spent");
+            print::number(place);
+            print::number(looked);
+        }
+        Searched::Refused(p) => {
+            print::text(b" refused");
+            print::number(print::parameter(p));
+        }
+    }
+    print::end();
+}
+
+// A short stream with the marker three bits in, and once more, with three wrong bits, at bit 80.
+fn short_stream(tolerance: u32) {
+    let stream = b"\x43\x59\xFF\x83\xB5\x55\x55\x55\x55\x55\x1A\xCF\xFF\x1C\x00";
+    searched(tolerance, stream, 0, 0);
+    searched(tolerance, stream, 0, 3);
+    searched(tolerance, stream, 0, 4);
+    searched(tolerance, stream, 3, 1);
+    searched(tolerance, stream, 4, 75);
+    searched(tolerance, stream, 4, 76);
+    searched(tolerance, stream, 4, 77);
+    searched(tolerance, stream, 4, 84);
+    searched(tolerance, stream, 4, 85);
+    searched(tolerance, stream, 81, 7);
+    searched(tolerance, stream, 81, 8);
+    searched(tolerance, stream, 88, 0);
+    searched(tolerance, stream, 89, 0);
+    searched(tolerance, stream, 120, u64::MAX);
+    searched(tolerance, stream, 121, u64::MAX);
+    searched(tolerance, stream, u64::MAX, 0);
+}
+
+// Too short for a place, exactly one place, and the two faults that can meet.
+fn small_streams() {
+    searched(3, b"", 0, 5);
+    searched(3, b"", 1, 5);
+    searched(3, b"\x1A\xCF\xFC", 0, 5);
+    searched(0, b"\x1A\xCF\xFC\x1D", 0, 1);
+    searched(0, b"\x1A\xCF\xFC\x1D", 0, 0);
+    searched(0, b"\x1A\xCF\xFC\x1D", 1, 1);
+    searched(4, b"\x1A\xCF\xFC\x1D", 33, 1);
+    searched(u32::MAX, b"", 0, 0);
+}
+
+fn put(stream: &mut [u8], at: usize, octet: u8) {
+    if at < stream.len() {
+        stream[at] = octet;
+    }
+}
+
+fn longest(stream: &[u8]) {
+    searched(0, stream, 0, u64::MAX);
+    searched(0, stream, 0, 524256);
+    searched(0, stream, 0, 524257);
+    searched(3, stream, 100000, 300000);
+    searched(3, stream, 524256, 1);
+    searched(3, stream, 524257, 1);
+    searched(3, stream, 524288, 1);
+    searched(3, stream, 524289, 1);
+}
+
+fn one_octet_more(stream: &[u8]) {
+    searched(3, stream, 0, 1);
+    searched(3, stream, 524297, 1);
+    searched(4, stream, 0, 1);
+}
+
+// The longest stream, with the marker at its end, and one octet more.
+fn long_streams(stream: &mut [u8]) {
+    print::fill(11, &mut *stream);
+    put(&mut *stream, 65532, 0x1A);
+    put(&mut *stream, 65533, 0xCF);
+    put(&mut *stream, 65534, 0xFC);
+    put(&mut *stream, 65535, 0x1D);
+    if stream.len() == 65537 {
+        longest(&stream[0..65536]);
+        one_octet_more(stream);
+    }
+}
+
+pub fn all() {
+    for tolerance in 0..5u32 {
+        tests_at(tolerance);
+        short_stream(tolerance);
+    }
+    tests_at(u32::MAX);
+    small_streams();
+    let mut stream = [0u8; 65537];
+    long_streams(&mut stream);
+}

@@ -1,0 +1,92 @@
+// What a line is made of.
+use libc::STDOUT_FILENO;
+use refusals::Parameter;
+use refusals::Verdict;
+
+pub fn text(s: &[u8]) {
+    io::write_all(STDOUT_FILENO, s);
+}
+
+pub fn number(n: u64) {
+    io::write_all(STDOUT_FILENO, b" ");
+    io::print_decimal(STDOUT_FILENO, n);
+}
+
+pub fn wide(x: u8) -> u64 {
+    x as u64
+}
+
+pub fn octet(x: u8) {
+    io::write_all(STDOUT_FILENO, b" ");
+    io::print_hex(STDOUT_FILENO, wide(x), 2);
+}
+
+pub fn end() {
+    io::write_all(STDOUT_FILENO, b"\n");
+}
+
+fn octets(s: &[u8]) {
+    let n = s.len();
+    for i in 0..n {
+        octet(s[i]);
+    }
+}
+
+fn digest(s: &[u8]) -> u64 {
+    let n = s.len();
+    let mut sum: u64 = 0;
+    for i in 0..n {
+        sum = (sum % 65536 * 31 + wide(s[i]) % 256) % 65536;
+    }
+    sum
+}
+
+// A short buffer whole; a long one by its length and a sum of its octets.
+pub fn buffer(s: &[u8]) {
+    let n = s.len();
+    if n <= 16 {
+        octets(s);
+    } else {
+        number(n as u64);
+        number(digest(s));
+    }
+}
+
+pub fn parameter(p: Parameter) -> u64 {
+    match p {
+        Parameter::Strength => 1,
+        Parameter::Depth => 2,
+        Parameter::Fill => 3,
+        Parameter::Allowance => 4,
+        Parameter::Input => 5,
+        Parameter::Output => 6,
+        Parameter::Rate => 7,
+        Parameter::Tolerance => 8,
+        Parameter::Start => 11,
+    }
+}
+
+pub fn verdict(v: Verdict) -> u64 {
+    match v {
+        Verdict::Accepted => 0,
+        Verdict::Refused(p) => parameter(p),
+    }
+}
+
+// The next of the numbers that stand in for data.
+pub fn turn(x: u32) -> u32 {
+    (x % 65536 * 25173 + 13849) % 65536
+}
+
+pub fn drawn(x: u32) -> u8 {
+    (x / 256 % 256) as u8
+}
+
+pub fn fill(x: u32, s: &mut [u8]) {
+    let n = s.len();
+    let mut y = x;
+    for i in 0..n {
+        y = turn(y);
+        s[i] = drawn(y);
+    }
+}

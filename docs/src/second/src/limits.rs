@@ -1,0 +1,113 @@
+//! The checks of parameters and lengths, by the table and the orders of document 01.
+
+struct Call {
+    e: u64,
+    i: u64,
+    q: u64,
+    s: u64,
+    t: u64,
+    input: u64,
+    required_input: u64,
+    output: u64,
+    required_output: u64,
+}
+
+fn due(number: u32, c: &Call) -> bool {
+    match number {
+        1 => c.e != 8 && c.e != 16,
+        2 => ![1, 2, 3, 4, 5, 8].contains(&c.i),
+        3 => c.q > 254 - 2 * c.e,
+        4 => c.s > c.e,
+        5 => c.input != c.required_input,
+        6 => c.output != c.required_output,
+        8 => c.t > 3,
+        _ => unreachable!(),
+    }
+}
+
+fn first(order: &[u32], c: &Call) -> u32 {
+    order.iter().copied().find(|&n| due(n, c)).unwrap_or(0)
+}
+
+fn all_four(e: u64, i: u64, q: u64, s: u64, t: u64, frame: u64, block: u64) {
+    let k = 255i64 - 2 * e as i64;
+    let frame_required = ((k - q as i64) * i as i64) as u64;
+    let block_required = ((255 - q as i64) * i as i64) as u64;
+    let out = |extra: u64| Call {
+        e,
+        i,
+        q,
+        s,
+        t,
+        input: frame,
+        required_input: frame_required,
+        output: block,
+        required_output: block_required.wrapping_add(extra),
+    };
+    let back = |extra: u64| Call {
+        e,
+        i,
+        q,
+        s,
+        t,
+        input: block,
+        required_input: block_required.wrapping_add(extra),
+        output: frame,
+        required_output: frame_required,
+    };
+    println!(
+        "limits {} {} {} {}",
+        first(&[1, 2, 3, 5, 6], &out(0)),
+        first(&[1, 2, 3, 5, 6], &out(4)),
+        first(&[1, 2, 3, 4, 5, 6], &back(0)),
+        first(&[1, 2, 3, 4, 8, 5, 6], &back(4)),
+    );
+}
+
+const M: u64 = u32::MAX as u64;
+
+const CASES: [[u64; 7]; 37] = [
+    [0, 1, 0, 0, 0, 255, 255],
+    [7, 1, 0, 0, 0, 241, 255],
+    [8, 1, 0, 8, 3, 239, 255],
+    [9, 1, 0, 0, 0, 237, 255],
+    [15, 1, 0, 0, 0, 225, 255],
+    [16, 1, 0, 16, 3, 223, 255],
+    [17, 1, 0, 0, 0, 221, 255],
+    [M, 0, 300, 400, 9, 0, 0],
+    [16, 0, 0, 0, 0, 0, 0],
+    [16, 2, 0, 0, 0, 446, 510],
+    [16, 3, 0, 0, 0, 669, 765],
+    [16, 4, 0, 0, 0, 892, 1020],
+    [16, 5, 0, 0, 0, 1115, 1275],
+    [16, 6, 0, 0, 0, 1338, 1530],
+    [16, 7, 0, 0, 0, 1561, 1785],
+    [16, 8, 0, 0, 0, 1784, 2040],
+    [16, 9, 0, 0, 0, 2007, 2295],
+    [16, M, 300, 400, 9, 0, 0],
+    [16, 1, 222, 16, 3, 1, 33],
+    [16, 1, 223, 16, 3, 0, 32],
+    [8, 1, 238, 8, 3, 1, 17],
+    [8, 1, 239, 8, 3, 0, 16],
+    [8, 8, 238, 8, 3, 8, 136],
+    [8, 1, M, 400, 9, 0, 0],
+    [16, 1, 222, 17, 3, 1, 33],
+    [8, 1, 238, 9, 3, 1, 17],
+    [16, 1, 222, 17, 4, 1, 37],
+    [16, 1, 222, 16, 4, 0, 0],
+    [16, 1, 222, 16, 3, 1, 37],
+    [16, 1, 222, M, M, 9, 9],
+    [16, 5, 0, 16, 3, 1114, 1275],
+    [16, 5, 0, 16, 3, 1116, 1275],
+    [16, 5, 0, 16, 3, 1115, 1274],
+    [16, 5, 0, 16, 3, 1115, 1276],
+    [16, 5, 0, 16, 3, 1115, 1279],
+    [16, 5, 0, 16, 3, 1114, 1278],
+    [16, 5, 0, 16, 3, 0, 0],
+];
+
+pub fn write_all() {
+    for [e, i, q, s, t, frame, block] in CASES {
+        all_four(e, i, q, s, t, frame, block);
+    }
+}
