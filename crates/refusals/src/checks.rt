@@ -1,6 +1,6 @@
 // Each call's checks of parameters and lengths, in the order of document 01.
 ghost use mathlib.Core.Path.{_≡_};
-ghost use mathlib.Core.List.{[], _∷_};
+ghost use mathlib.Core.List.{[], _∷_, _++_};
 ghost use Prim.Native.Nat.{_+_, _*_, _≤_, _<_};
 ghost use Rattle.refusals.specs.Order.{FirstOf, OneOf, Tells};
 ghost use Rattle.refusals.specs.Sizes.{strengths, depths, rates, information, frameLength, blockLength, symbolCount, octetsFor};
@@ -104,34 +104,29 @@ fn block_length(e: u32, depth: u32, fill: u32) -> usize
     interleaved(255 - fill, depth)
 }
 
-pub fn encode_parameters(e: u32, depth: u32, fill: u32, frame: usize, block: usize) -> Verdict
-    ensures { λ r. ⌜ FirstOf (encodeOrder e depth fill frame block) (verdictNumber r) ⌝ }
+// Checks 1, 2, 3, 5 and 6 of a call that takes a frame and gives a block with so many octets in front.
+fn outgoing(e: u32, depth: u32, fill: u32, frame: usize, out: usize, front: usize) -> Verdict
+    requires { ⌜ front ≤ 4 ⌝ }
+    ensures { λ r. ⌜ FirstOf (wordParameters e depth fill ++ (input frame (frameLength e depth fill) ∷ output out (blockLength depth fill + front) ∷ [])) (verdictNumber r) ⌝ }
 {
     let word = word_parameters(e, depth, fill);
     if let Verdict::Refused(p) = word {
         return Verdict::Refused(p);
     }
-    lengths(
-        frame,
-        frame_length(e, depth, fill),
-        block,
-        block_length(e, depth, fill),
-    )
+    let required = frame_length(e, depth, fill);
+    lengths(frame, required, out, block_length(e, depth, fill) + front)
+}
+
+pub fn encode_parameters(e: u32, depth: u32, fill: u32, frame: usize, block: usize) -> Verdict
+    ensures { λ r. ⌜ FirstOf (encodeOrder e depth fill frame block) (verdictNumber r) ⌝ }
+{
+    outgoing(e, depth, fill, frame, block, 0)
 }
 
 pub fn transmit_parameters(e: u32, depth: u32, fill: u32, frame: usize, marked: usize) -> Verdict
     ensures { λ r. ⌜ FirstOf (transmitOrder e depth fill frame marked) (verdictNumber r) ⌝ }
 {
-    let word = word_parameters(e, depth, fill);
-    if let Verdict::Refused(p) = word {
-        return Verdict::Refused(p);
-    }
-    lengths(
-        frame,
-        frame_length(e, depth, fill),
-        marked,
-        block_length(e, depth, fill) + 4,
-    )
+    outgoing(e, depth, fill, frame, marked, 4)
 }
 
 pub fn decode_parameters(
@@ -151,12 +146,8 @@ pub fn decode_parameters(
     if s > e {
         return Verdict::Refused(Parameter::Allowance);
     }
-    lengths(
-        block,
-        block_length(e, depth, fill),
-        frame,
-        frame_length(e, depth, fill),
-    )
+    let required = block_length(e, depth, fill);
+    lengths(block, required, frame, frame_length(e, depth, fill))
 }
 
 pub fn receive_parameters(
@@ -180,12 +171,8 @@ pub fn receive_parameters(
     if tolerance > 3 {
         return Verdict::Refused(Parameter::Tolerance);
     }
-    lengths(
-        marked,
-        block_length(e, depth, fill) + 4,
-        frame,
-        frame_length(e, depth, fill),
-    )
+    let required = block_length(e, depth, fill) + 4;
+    lengths(marked, required, frame, frame_length(e, depth, fill))
 }
 
 pub fn randomise_parameters(block: usize) -> Verdict

@@ -1,48 +1,26 @@
--- `encode_parameters` answers checks 1 to 3, then the lengths.
-use borrow.Author.Needs.{needs}
-use mathlib.Core.Path.{_≡_, refl, ap}
-use mathlib.Core.Logic.{inl, inr}
+-- `encode_parameters` is `outgoing` with nothing in front of the block.
+use mathlib.Core.Path.{subst}
 use mathlib.Core.List.{[], _∷_}
-use Prim.Native.Nat.{ℕ, _+_}
-use native.Mathlib.Omega.{arith}
-use Rattle.refusals.specs.Calls.{wordParameters}
-use Rattle.refusals.proofs.Verdicts.{passed, stopped, after-words, same-lengths}
+use Prim.Native.Nat.{ℕ}
+use native.Mathlib.Nat.{add-zero}
+use borrow.Author.Needs.{needs}
+use Rattle.refusals.specs.Order.{FirstOf}
+use Rattle.refusals.specs.Sizes.{frameLength, blockLength}
+use Rattle.refusals.specs.Numbers.{verdictNumber}
+use Rattle.refusals.specs.Calls.{strength, depth, fill, input, output}
 use Rattle.refusals.proofs.checks.encode_parameters.Statement.{statement}
 use Rattle.refusals.proofs.checks.encode_parameters.Tie as tie
 
-word-parameters-requires : tie.Need-word-parameters-requires
-word-parameters-requires c κs = search needs
-
-enum-known-word : tie.Need-enum-known-word
-enum-known-word c = search needs
+outgoing-requires : tie.Need-outgoing-requires
+outgoing-requires c κs = search needs
 
 returns : tie.Need-returns
-returns c = stopped _ (wordParameters (c .before .before .before .before .args .e) (c .before .before .before .before .args .depth) (c .before .before .before .before .args .fill)) (c .before .before .before .word-parameters .result) _ (c .before .word .given .1) (c .before .before .before .word-parameters .ensures)
-
-enum-told : tie.Need-enum-told
-enum-told c = search needs
-
-frame-length-requires : tie.Need-frame-length-requires
-frame-length-requires c κs = passed (wordParameters (c .before .before .before .args .e) (c .before .before .before .args .depth) (c .before .before .before .args .fill)) (c .before .before .word-parameters .result) (c .enum-told .given .1) (c .before .before .word-parameters .ensures)
-
-block-length-requires : tie.Need-block-length-requires
-block-length-requires c κs = passed (wordParameters (c .before .before .before .before .args .e) (c .before .before .before .before .args .depth) (c .before .before .before .before .args .fill)) (c .before .before .before .word-parameters .result) (c .before .enum-told .given .1) (c .before .before .before .word-parameters .ensures)
-
-lengths-requires : tie.Need-lengths-requires
-lengths-requires c κs = search needs
-
-returns-2 : tie.Need-returns-2
-returns-2 c = after-words (c .before .before .before .before .before .before .args .e) (c .before .before .before .before .before .before .args .depth) (c .before .before .before .before .before .before .args .fill) _ (passed (wordParameters (c .before .before .before .before .before .before .args .e) (c .before .before .before .before .before .before .args .depth) (c .before .before .before .before .before .before .args .fill)) (c .before .before .before .before .before .word-parameters .result) (c .before .before .before .enum-told .given .1) (c .before .before .before .before .before .word-parameters .ensures)) (same-lengths _ _ _ _ _ _ _ (c .before .before .frame-length .ensures) (c .before .block-length .ensures .0) (c .lengths .ensures))
+returns c =
+    subst
+    (λ (required : ℕ).
+    FirstOf (strength (c .before .args .e) ∷ depth (c .before .args .depth) ∷ fill (c .before .args .e) (c .before .args .fill) ∷ input (c .before .args .frame) (frameLength (c .before .args .e) (c .before .args .depth) (c .before .args .fill)) ∷ output (c .before .args .block) required ∷ [])
+    (verdictNumber (c .outgoing .result)))
+    (add-zero (blockLength (c .before .args .depth) (c .before .args .fill))) (c .outgoing .ensures)
 
 pub encode-parameters-spec : {M : Type 1} → statement M
-encode-parameters-spec =
-    tie.close
-    (tie.spec
-    word-parameters-requires
-    enum-known-word
-    returns
-    enum-told
-    frame-length-requires
-    block-length-requires
-    lengths-requires
-    returns-2)
+encode-parameters-spec = tie.close (tie.spec outgoing-requires returns)

@@ -31,8 +31,8 @@ returns-3 c = after-words (c .before .before .before .before .before .args .e) (
 block-length-requires : tie.Need-block-length-requires
 block-length-requires c κs = passed (wordParameters (c .before .before .before .before .before .args .e) (c .before .before .before .before .before .args .depth) (c .before .before .before .before .before .args .fill)) (c .before .before .before .before .word-parameters .result) (c .before .before .enum-told .given .1) (c .before .before .before .before .word-parameters .ensures)
 
-add-lengths : tie.Need-add-lengths
-add-lengths c = search needs
+add-required : tie.Need-add-required
+add-required c = search needs
 
 frame-length-requires : tie.Need-frame-length-requires
 frame-length-requires c κs = passed (wordParameters (c .before .before .before .before .before .before .args .e) (c .before .before .before .before .before .before .args .depth) (c .before .before .before .before .before .before .args .fill)) (c .before .before .before .before .before .word-parameters .result) (c .before .before .before .enum-told .given .1) (c .before .before .before .before .before .word-parameters .ensures)
@@ -54,7 +54,7 @@ receive-parameters-spec =
     returns-2
     returns-3
     block-length-requires
-    add-lengths
+    add-required
     frame-length-requires
     lengths-requires
     returns-4)

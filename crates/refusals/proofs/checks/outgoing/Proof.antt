@@ -1,4 +1,4 @@
--- `transmit_parameters` answers checks 1 to 3, then the lengths.
+-- `outgoing` answers checks 1 to 3, then the lengths.
 use borrow.Author.Needs.{needs}
 use mathlib.Core.Path.{_≡_, refl, ap}
 use mathlib.Core.Logic.{inl, inr}
@@ -7,8 +7,8 @@ use Prim.Native.Nat.{ℕ, _+_}
 use native.Mathlib.Omega.{arith}
 use Rattle.refusals.specs.Calls.{wordParameters}
 use Rattle.refusals.proofs.Verdicts.{passed, stopped, after-words, same-lengths}
-use Rattle.refusals.proofs.checks.transmit_parameters.Statement.{statement}
-use Rattle.refusals.proofs.checks.transmit_parameters.Tie as tie
+use Rattle.refusals.proofs.checks.outgoing.Statement.{statement}
+use Rattle.refusals.proofs.checks.outgoing.Tie as tie
 
 word-parameters-requires : tie.Need-word-parameters-requires
 word-parameters-requires c κs = search needs
@@ -35,10 +35,10 @@ lengths-requires : tie.Need-lengths-requires
 lengths-requires c κs = search needs
 
 returns-2 : tie.Need-returns-2
-returns-2 c = after-words (c .before .before .before .before .before .before .args .e) (c .before .before .before .before .before .before .args .depth) (c .before .before .before .before .before .before .args .fill) _ (passed (wordParameters (c .before .before .before .before .before .before .args .e) (c .before .before .before .before .before .before .args .depth) (c .before .before .before .before .before .before .args .fill)) (c .before .before .before .before .before .word-parameters .result) (c .before .before .before .enum-told .given .1) (c .before .before .before .before .before .word-parameters .ensures)) (same-lengths _ _ _ _ _ _ _ (c .before .before .frame-length .ensures) (ap (λ (n : ℕ). n + 4) (c .before .block-length .ensures .0)) (c .lengths .ensures))
+returns-2 c = after-words (c .before .before .before .before .before .before .args .e) (c .before .before .before .before .before .before .args .depth) (c .before .before .before .before .before .before .args .fill) _ (passed (wordParameters (c .before .before .before .before .before .before .args .e) (c .before .before .before .before .before .before .args .depth) (c .before .before .before .before .before .before .args .fill)) (c .before .before .before .before .before .word-parameters .result) (c .before .before .before .enum-told .given .1) (c .before .before .before .before .before .word-parameters .ensures)) (same-lengths _ _ _ _ _ _ _ (c .before .before .frame-length .ensures) (ap (λ (n : ℕ). n + c .before .before .before .before .before .before .args .front) (c .before .block-length .ensures .0)) (c .lengths .ensures))
 
-pub transmit-parameters-spec : {M : Type 1} → statement M
-transmit-parameters-spec =
+pub outgoing-spec : {M : Type 1} → statement M
+outgoing-spec =
     tie.close
     (tie.spec
     word-parameters-requires
