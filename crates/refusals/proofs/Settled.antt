@@ -1,10 +1,12 @@
 -- Every public call of the crate is settled by its contract: two verdicts that one order permits are equal.
 use mathlib.Core.Path.{_≡_, refl, sym, ap, _∙_}
+use mathlib.Core.Bool.{Bool, true, false}
 use mathlib.Core.List.{List, [], _∷_}
 use Prim.Native.Nat.{ℕ}
 use native.Mathlib.Omega.{arith}
 use lib.ListN.{getD}
-use Rattle.refusals.specs.Order.{Check, FirstOf}
+use Rattle.refusals.specs.Order.{Check, FirstOf, OneOf, Tells}
+use Rattle.refusals.specs.Sizes.{strengths}
 use Rattle.refusals.specs.Numbers.{parameterNumber, verdictNumber}
 use Rattle.refusals.specs.Calls.{encodeOrder, decodeParameters, randomiseOrder, convolveOrder, markerParameters, searchOrder, transmitOrder, receiveParameters}
 use Rattle.refusals.specs.declared.Parameter.{Parameter}
@@ -43,6 +45,16 @@ pub verdict-settled : (order : List Check) (v w : Verdict) → FirstOf order (ve
 verdict-settled order v w p q = verdict-known v w (first-unique order (verdictNumber v) (verdictNumber w) p q)
 
 -- ---- so each call is settled
+
+-- a flag that tells a fact is settled
+pub flag-settled : (fact : Type 0) (a b : Bool) → Tells a fact → Tells b fact → a ≡ b
+flag-settled fact true true t u = refl
+flag-settled fact true false t u = absurd (u t)
+flag-settled fact false true t u = absurd (t u)
+flag-settled fact false false t u = refl
+
+pub strength-legal-settled : (e : ℕ) (a b : Bool) → Tells a (OneOf strengths e) → Tells b (OneOf strengths e) → a ≡ b
+strength-legal-settled e = flag-settled (OneOf strengths e)
 
 module _ (v w : Verdict) where
   abbrev Settled : List Check → Type 0

@@ -9,7 +9,7 @@ ghost use Rattle.refusals.specs.Calls.{input, output, wordParameters, en
 use crate::Parameter;
 use crate::Verdict;
 
-fn strength_legal(e: u32) -> bool
+pub fn strength_legal(e: u32) -> bool
     ensures { λ r. ⌜ Tells r (OneOf strengths e) ⌝ }
 {
     if e == 8 {

@@ -8,6 +8,7 @@ pub use checks::marker_parameters;
 pub use checks::randomise_parameters;
 pub use checks::receive_parameters;
 pub use checks::search_parameters;
+pub use checks::strength_legal;
 pub use checks::transmit_parameters;
 
 // A parameter or a length that is not legal.

@@ -1,0 +1,61 @@
+-- Arrays that a loop fills place by place, and arrays of zeros.
+use mathlib.Core.Path.{_≡_, refl, sym, ap, _∙_}
+use mathlib.Core.List.{List, [], _∷_, map}
+use Prim.Native.Nat.{ℕ, zero, suc, _+_, _≤_, _<_}
+use native.Mathlib.Omega.{arith}
+use native.Mathlib.Decide.{ℕ-discrete}
+use lib.ListN.{length, getD, take, set, length-set, length-map, replicate}
+use lib.Seq.{getD-set-same, getD-set-other, getD-take, ext-getD, length-take-le}
+use lib.Bits.{bitXor}
+use Rattle.field.specs.Field.{_⊕_}
+use Rattle.field.proofs.Sum.{⊕-is}
+use Rattle.codewords.specs.Words.{Octets}
+use Rattle.words.specs.Working.{Filled, Same}
+
+pub filled-starts : (f : ℕ → ℕ) (places : ℕ) (out : List ℕ) → length out ≡ places → Filled f places out 0
+filled-starts f places out h = record { size = h; each = λ i l. absurd (omega arith) }
+
+pub filled-turn : (f : ℕ → ℕ) (places : ℕ) (out : List ℕ) (j v : ℕ) → Filled f places out j → j < places → v ≡ f j → Filled f places (set out j v) (j + 1)
+filled-turn f places out j v F h e =
+    record {
+      size = length-set out j v ∙ F .size;
+      each = λ i l. elim (ℕ-discrete i j) [
+        | yes q ↦ ap (λ (k : ℕ). getD (set out j v) k 0) q ∙ getD-set-same out j v 0 (omega (arith, F .size)) ∙ e ∙ ap f (sym q)
+        | no n ↦ getD-set-other out j i v 0 n ∙ F .each i (omega arith)
+      ];
+    }
+
+pub sum-turn : (f : ℕ → ℕ) (places : ℕ) (out : List ℕ) (j a b : ℕ) → Filled f places out j → j < places → a ⊕ b ≡ f j → Filled f places (set out j (bitXor a b)) (j + 1)
+sum-turn f places out j a b F h e = filled-turn f places out j (bitXor a b) F h (sym (⊕-is a b) ∙ e)
+
+pub filled-take : (f : ℕ → ℕ) (places n k : ℕ) (out : List ℕ) → Filled f places out n → k ≤ n → k ≤ places → Filled f k (take k out) k
+filled-take f places n k out F h l = record { size = length-take-le k out (omega (arith, F .size)); each = λ i j. getD-take k out i 0 j ∙ F .each i (omega arith) }
+
+pub zero-at : (n i : ℕ) → _≡_ {A = ℕ} (getD (replicate n 0) i 0) 0
+zero-at zero i = refl
+zero-at (suc n) zero = refl
+zero-at (suc n) (suc i) = zero-at n i
+
+pub one-first : (n : ℕ) → Same (1 ∷ replicate n 0) (1 ∷ [])
+one-first n zero = refl
+one-first n (suc j) = zero-at n j
+
+-- bytes, as a slice has them
+pub octets-of : (w : List ℕ) → ((i : ℕ) → getD w i 0 < 256) → Octets w
+octets-of [] h = tt
+octets-of (c ∷ w) h = (h 0, octets-of w (λ i. h (suc i)))
+
+-- what is converted symbol by symbol
+module _ (f : ℕ → ℕ) where
+  pub getD-map : (w : List ℕ) (i : ℕ) → i < length w → getD (map f w) i 0 ≡ f (getD w i 0)
+  getD-map [] i h = absurd (omega arith)
+  getD-map (c ∷ w) zero h = refl
+  getD-map (c ∷ w) (suc i) h = getD-map w i (omega arith)
+
+  pub filled-map : (places : ℕ) (w out : List ℕ) → length w ≤ places → Filled (λ i. f (getD w i 0)) places out (length w) → take (length w) out ≡ map f w
+  filled-map places w out h F =
+      ext-getD 0 (take (length w) out) (map f w) (size ∙ sym (length-map w f))
+      (λ i l. getD-take (length w) out i 0 (omega (arith, size)) ∙ F .each i (omega (arith, size)) ∙ sym (getD-map w i (omega (arith, size))))
+    where
+      size : length (take (length w) out) ≡ length w
+      size = length-take-le (length w) out (omega (arith, F .size))

@@ -1,0 +1,57 @@
+-- `syndromes_from` takes one symbol after another at all points; what is left to do gives the values of the whole word.
+use mathlib.Core.Path.{_≡_, refl}
+use Prim.Native.Nat.{_≤_, _-_}
+use native.Mathlib.Omega.{arith}
+use lib.ListN.{length}
+use borrow.Author.Needs.{needs}
+use Rattle.words.proofs.Arrays.{octets-of}
+use Rattle.words.proofs.WordSums.{Summed, summed-starts, summed-turn, summed-ends}
+use Rattle.words.proofs.syndromes.syndromes_from.Statement.{statement}
+use Rattle.words.proofs.syndromes.syndromes_from.Tie as tie
+
+abbrev Inv-loop : tie.InvT-loop
+Inv-loop m word points sums₀ j₀ j-end sums j = (j ≤ length word) × (j-end ≡ length word) × Summed m word sums j
+
+abbrev μ-loop : tie.MeasureT-loop
+μ-loop m word points sums₀ j₀ j-end sums j = length word - j
+
+points-from-requires : tie.Need-points-from-requires Inv-loop μ-loop
+points-from-requires c κs = search needs
+
+loop-holds : tie.Need-loop-holds Inv-loop μ-loop
+loop-holds c = (omega arith, omega arith, summed-starts _ _)
+
+shared-slice-read-with-symbol : tie.Need-shared-slice-read-with-symbol Inv-loop μ-loop
+shared-slice-read-with-symbol c = search needs
+
+with-symbol-requires : tie.Need-with-symbol-requires Inv-loop μ-loop
+with-symbol-requires c κs = search needs
+
+add-j : tie.Need-add-j Inv-loop μ-loop
+add-j c = search needs
+
+loop-less : tie.Need-loop-less Inv-loop μ-loop
+loop-less c = search needs
+
+loop-again : tie.Need-loop-again Inv-loop μ-loop
+loop-again c = (omega arith, omega arith, summed-turn _ _ _ _ _ _ _ (c .before .before .before .before .before .loop .inv .2) (omega arith) (c .before .before .before .before .before .before .points-from .ensures) refl (c .with-symbol .ensures))
+
+returns : tie.Need-returns Inv-loop μ-loop
+returns c =
+    summed-ends _ (c .before .before .before .before .args .word .now) _ (c .before .loop .j) (c .before .loop .inv .2) (omega arith)
+    (octets-of (c .before .before .before .before .args .word .now) (λ i. omega (arith, c .before .before .before .shared-slice-known .given i)))
+
+pub syndromes-from-spec : {M : Type 1} → statement M
+syndromes-from-spec =
+    tie.close
+    (tie.spec
+    Inv-loop
+    μ-loop
+    points-from-requires
+    loop-holds
+    shared-slice-read-with-symbol
+    with-symbol-requires
+    add-j
+    loop-less
+    loop-again
+    returns)
