@@ -8,7 +8,7 @@ use native.Mathlib.Decide.{ℕ-discrete}
 use Rattle.refusals.specs.Order.{FirstOf, OneOf}
 use Rattle.refusals.specs.Sizes.{strengths, depths, rates, information}
 use Rattle.refusals.specs.Calls.{wordParameters}
-use Rattle.refusals.proofs.Orders.{one-of}
+use Rattle.refusals.proofs.Orders.{Numbered, Clear, accepted-clear, one-of}
 
 -- The least and the largest number of a list bound every one of it.
 abbrev pub Within : ℕ → ℕ → List ℕ → Type 0
@@ -68,13 +68,10 @@ pub record LegalWords (e i q : ℕ) : Type 0 where
   pub deep : i ≤ 8
   pub filled : q < information e
 
-pub legal-words : (e i q : ℕ) → FirstOf (wordParameters e i q) 0 → LegalWords e i q
-legal-words e i q (inl p) = absurd (omega (arith, p .1))
-legal-words e i q (inr (s, inl p)) = absurd (omega (arith, p .1))
-legal-words e i q (inr (s, inr (d, inl p))) = absurd (omega (arith, p .1))
-legal-words e i q (inr (s, inr (d, inr (f, a)))) =
-    let strong : OneOf strengths e = one-of strengths e s in
-    let deep : OneOf depths i = one-of depths i d in
+pub legal-words : (e i q : ℕ) → Clear (wordParameters e i q) → LegalWords e i q
+legal-words e i q clear =
+    let strong : OneOf strengths e = one-of strengths e (clear .0) in
+    let deep : OneOf depths i = one-of depths i (clear .1 .0) in
     record {
       strength = strong;
       depth = deep;
@@ -82,5 +79,12 @@ legal-words e i q (inr (s, inr (d, inr (f, a)))) =
       strong = strength-bounds e strong .1;
       some = depth-bounds i deep .0;
       deep = depth-bounds i deep .1;
-      filled = omega (arith, f, strength-bounds e strong .1);
+      filled = omega (arith, clear .1 .1 .0, strength-bounds e strong .1);
     }
+
+-- The numbers of the lists are all refusals.
+pub word-numbers : (e i q : ℕ) → Numbered (wordParameters e i q)
+word-numbers e i q = (omega arith, (omega arith, (omega arith, tt)))
+
+pub accepted-words : (e i q : ℕ) → FirstOf (wordParameters e i q) 0 → LegalWords e i q
+accepted-words e i q f = legal-words e i q (accepted-clear (wordParameters e i q) (word-numbers e i q) f)

@@ -43,6 +43,23 @@ first-accepts rest [] o p = refl
 first-accepts rest (check ∷ later) o (inl p) = absurd (o .0 (sym (p .1)))
 first-accepts rest (check ∷ later) o (inr p) = inr (p .0, first-accepts rest later (o .1) (p .1))
 
+-- Accepted means that no check is due, and the other way round.
+abbrev pub Clear : List Check → Type 0
+Clear [] = Unit {0}
+Clear (check ∷ later) = (check .1 → ⊥) × Clear later
+
+pub accepted-clear : (order : List Check) → Numbered order → FirstOf order 0 → Clear order
+accepted-clear [] o p = tt
+accepted-clear (check ∷ later) o (inl p) = absurd (o .0 (sym (p .1)))
+accepted-clear (check ∷ later) o (inr p) = (p .0, accepted-clear later (o .1) (p .1))
+
+pub clear-accepted : (order : List Check) → Clear order → FirstOf order 0
+clear-accepted [] c = refl
+clear-accepted (check ∷ later) c = inr (c .0, clear-accepted later (c .1))
+
+pub not-different : (m n : ℕ) → ((m ≢ n) → ⊥) → m ≡ n
+not-different m n d = elim (ℕ-discrete m n) [ yes e ↦ e | no x ↦ absurd (d x) ]
+
 -- The flag of a negated test.
 pub denied : (flag : Bool) (fact : Type 0) → not flag ≡ true → Tells flag fact → fact → ⊥
 denied false fact e t = t

@@ -11,6 +11,7 @@ use Rattle.refusals.specs.declared.Parameter.{Parameter}
 use Rattle.refusals.specs.declared.Parameter.the-variants.{Strength, Depth, Fill, Allowance, Input, Output, Rate, Tolerance, Start}
 use Rattle.refusals.specs.declared.Verdict.{Verdict}
 use Rattle.refusals.specs.declared.Verdict.the-variants.{Accepted, Refused}
+use Rattle.refusals.proofs.Legal.{word-numbers}
 use Rattle.refusals.proofs.Orders.{Begins, first-stops, first-passes}
 
 -- Parameters are refused by 1 to 8 and by 11, so by neither 0, which is accepted, nor 9 nor 10, which are not about parameters.
@@ -46,7 +47,7 @@ stopped rest front v p e f =
 
 -- Checks 1, 2 and 3 passed: what comes after them decides.
 pub after-words : {rest : Type 0} (e i q n : ℕ) → FirstOf (wordParameters e i q) 0 → rest → Begins (wordParameters e i q) n rest
-after-words e i q n f g = first-passes (wordParameters e i q) n (omega arith, (omega arith, (omega arith, tt))) f g
+after-words e i q n f g = first-passes (wordParameters e i q) n (word-numbers e i q) f g
 
 -- The lengths that were computed are those required.
 pub same-lengths : (a b c d given out n : ℕ) → a ≡ c → b ≡ d → FirstOf (input given a ∷ output out b ∷ []) n → FirstOf (input given c ∷ output out d ∷ []) n

@@ -1,0 +1,145 @@
+-- A block that holds the frame and then the rows of checks, interleaved, is coded; so encode keeps what it promises.
+use mathlib.Core.Path.{_≡_, refl, sym, ap, ap₂, _∙_, subst}
+use mathlib.Core.Logic.{_≢_, inl, inr}
+use mathlib.Core.List.{List, [], _++_}
+use Prim.Native.Nat.{ℕ, _+_, _-_, _*_, _≤_, _<_}
+use native.Mathlib.Nat.{mul-le-mul-right}
+use native.Mathlib.Decide.{ℕ-discrete}
+use native.Mathlib.Omega.{arith}
+use lib.ListN.{length, take, drop, getD}
+use lib.Seq.{take-at, getD-take, length-front, length-take-le}
+use Rattle.refusals.specs.Order.{FirstOf}
+use Rattle.refusals.specs.Sizes.{information, frameLength, blockLength}
+use Rattle.refusals.specs.Calls.{encodeOrder}
+use Rattle.refusals.specs.Numbers.{verdictNumber}
+use Rattle.refusals.specs.declared.Parameter.{Parameter}
+use Rattle.refusals.specs.declared.Verdict.{Verdict}
+use Rattle.refusals.specs.declared.Verdict.the-variants.{Accepted, Refused}
+use Rattle.refusals.proofs.Orders.{Numbered, Clear, accepted-clear, not-different}
+use Rattle.refusals.proofs.Legal.{LegalWords, legal-words}
+use Rattle.refusals.proofs.Verdicts.{parameter-nonzero, same-verdict, passed}
+use Rattle.codewords.specs.Words.{Codeword, withFill}
+use Rattle.reed_solomon.specs.Blocks.{sentFrom, wordOf}
+use Rattle.reed_solomon.specs.Outcome.{Coded, EncodeOutcome}
+use Rattle.reed_solomon.specs.Working.{inRow, StrengthTable, rowAfter, RowsDone, ChecksPut}
+use Rattle.reed_solomon.proofs.Interleaving.{sent-is, sent-++, sent-information, place-below}
+use Rattle.reed_solomon.proofs.CheckRows.{long-row, row-front-size, row-codeword}
+
+-- ---- what is known once every check of encode has passed
+
+pub record EncodeLegal (e i q frame block : ℕ) : Type 0 where
+  pub words : LegalWords e i q
+  pub input : frame ≡ frameLength e i q
+  pub output : block ≡ blockLength i q
+
+pub encode-numbers : (e i q frame block : ℕ) → Numbered (encodeOrder e i q frame block)
+encode-numbers e i q frame block = (omega arith, (omega arith, (omega arith, (omega arith, (omega arith, tt)))))
+
+pub encode-legal : (e i q frame block : ℕ) → FirstOf (encodeOrder e i q frame block) 0 → EncodeLegal e i q frame block
+encode-legal e i q frame block f =
+    let clear : Clear (encodeOrder e i q frame block) = accepted-clear (encodeOrder e i q frame block) (encode-numbers e i q frame block) f in
+    record {
+      words = legal-words e i q (clear .0, (clear .1 .0, (clear .1 .1 .0, tt)));
+      input = not-different frame (frameLength e i q) (clear .1 .1 .1 .0);
+      output = not-different block (blockLength i q) (clear .1 .1 .1 .1 .0);
+    }
+
+pub verdict-legal : (e i q frame block : ℕ) (v : Verdict) → v ≡ Accepted → FirstOf (encodeOrder e i q frame block) (verdictNumber v) → EncodeLegal e i q frame block
+verdict-legal e i q frame block v accepts first = encode-legal e i q frame block (passed (encodeOrder e i q frame block) v accepts first)
+
+-- the checks fill what the frame leaves
+pub checks-fit : (e i q frame block : ℕ) → EncodeLegal e i q frame block → frame + (e + e) * i ≡ block
+checks-fit e i q frame block legal = omega (arith, legal .input, legal .output, ap (λ (n : ℕ). n * i) sizes)
+  where
+    sizes : 255 - q ≡ information e - q + (e + e)
+    sizes = omega (arith, legal .words .strong, legal .words .filled)
+
+pub put-size : (e i q : ℕ) (frame before put : List ℕ) → EncodeLegal e i q (length frame) (length before) → put ≡ frame ++ drop (length frame) before → length put ≡ length before
+put-size e i q frame before put legal P =
+    ap length P ∙ length-front before frame (length frame)
+    (sym (length-take-le (length frame) before (omega (arith, checks-fit e i q (length frame) (length before) legal))))
+
+pub checks-room : (e i q : ℕ) (frame before put : List ℕ) → EncodeLegal e i q (length frame) (length before) → put ≡ frame ++ drop (length frame) before
+    → (0 < i) × (i ≤ 8) × (length frame ≤ length put) × (length put ≤ length frame + 32 * i)
+checks-room e i q frame before put legal P =
+    (omega (arith, legal .words .some), legal .words .deep, omega (arith, size, fits), omega (arith, size, fits, mul-le-mul-right i few))
+  where
+    size : length put ≡ length before
+    size = put-size e i q frame before put legal P
+
+    fits : length frame + (e + e) * i ≡ length before
+    fits = checks-fit e i q (length frame) (length before) legal
+
+    few : e + e ≤ 32
+    few = omega (arith, legal .words .strong)
+
+-- ---- the block
+
+module _ (e i q : ℕ) (frame before put after : List ℕ) (rows : List (List ℕ)) (table : List ℕ) (legal : EncodeLegal e i q (length frame) (length before))
+    (T : StrengthTable e table) (R : RowsDone table i frame rows) (P : put ≡ frame ++ drop (length frame) before) (C : ChecksPut rows i (length frame) put after)
+    (octets : (m : ℕ) → getD frame m 0 < 256) where
+  abbrev symbols : ℕ
+  symbols = information e - q
+
+  sizes : 255 - q ≡ symbols + (e + e)
+  sizes = omega (arith, legal .words .strong, legal .words .filled)
+
+  fits : length frame + (e + e) * i ≡ length before
+  fits = checks-fit e i q (length frame) (length before) legal
+
+  first : take (length frame) after ≡ frame
+  first = C .front ∙ ap (take (length frame)) P ∙ take-at frame (drop (length frame) before) (length frame) refl
+
+  module _ (w : ℕ) (h : w < i) where
+    abbrev row : List ℕ
+    row = rowAfter (inRow e (T .generator)) i frame w symbols
+
+    row-is : getD rows w [] ≡ row
+    row-is = R (inRow e (T .generator)) (long-row e (T .generator) (T .right) (omega (arith, legal .words .weak)) (legal .words .strong)) (T .listed) symbols (legal .input) w h
+
+    last : sentFrom i after w (0 + symbols) (e + e) ≡ take (e + e) row
+    last =
+        sent-is i after w (0 + symbols) (e + e) (take (e + e) row)
+        (row-front-size e (T .generator) (T .right) (omega (arith, legal .words .weak)) (legal .words .strong) i frame w symbols)
+        (λ j l. ap (λ (n : ℕ). getD after n 0) (omega (arith, legal .input))
+        ∙ C .checks j w h (omega (arith, put-size e i q frame before put legal P, fits, place-below i j (e + e) w l h))
+        ∙ ap (λ (list : List ℕ). getD list j 0) row-is ∙ sym (getD-take (e + e) row j 0 l))
+
+    word-coded : Codeword e (wordOf i q after w)
+    word-coded =
+        subst (λ (word : List ℕ). Codeword e (withFill q word))
+        (sym (ap (sentFrom i after w 0) sizes ∙ sent-++ i after w 0 symbols (e + e)
+        ∙ ap₂ {C = List ℕ} (λ (x y : List ℕ). x ++ y) (sent-information i frame after w symbols h (legal .input) first) last))
+        (row-codeword e (T .generator) (T .right) (omega (arith, legal .words .weak)) (legal .words .strong) i frame w symbols q (omega (arith, sizes, legal .words .filled)) octets)
+
+  pub block-coded : Coded e i q frame after
+  block-coded = record { information = first; words = word-coded }
+
+  pub block-size : length after ≡ length before
+  block-size = C .size ∙ put-size e i q frame before put legal P
+
+-- ---- encode
+
+module _ (e i q : ℕ) (frame before : List ℕ) (v : Verdict) (first : FirstOf (encodeOrder e i q (length frame) (length before)) (verdictNumber v)) where
+  pub encode-refuses : (p : Parameter) → v ≡ Refused p → EncodeOutcome e i q frame before (Refused p) before
+  encode-refuses p refuses =
+      record {
+        number = same-verdict (encodeOrder e i q (length frame) (length before)) v (Refused p) refuses first;
+        size = refl;
+        refused = λ n. refl;
+        accepted = λ n. absurd (parameter-nonzero p n);
+      }
+
+  pub encode-accepts : (put after : List ℕ) (rows : List (List ℕ)) (table : List ℕ) → v ≡ Accepted → StrengthTable e table → RowsDone table i frame rows
+      → put ≡ frame ++ drop (length frame) before → ChecksPut rows i (length frame) put after → ((m : ℕ) → getD frame m 0 < 256)
+      → EncodeOutcome e i q frame before Accepted after
+  encode-accepts put after rows table accepts T R P C octets =
+      record {
+        number = same-verdict (encodeOrder e i q (length frame) (length before)) v Accepted accepts first;
+        size = block-size e i q frame before put after rows table legal T R P C octets;
+        refused = λ n. absurd (n refl);
+        accepted = λ n. block-coded e i q frame before put after rows table legal T R P C octets;
+      }
+    where
+      legal : EncodeLegal e i q (length frame) (length before)
+      legal = verdict-legal e i q (length frame) (length before) v accepts first

@@ -1,0 +1,159 @@
+-- What `decode` answers: refused for a parameter, refused for the lowest lost word, or delivered.
+use mathlib.Core.Path.{_≡_, refl, sym, ap, ap₂, _∙_, subst}
+use mathlib.Core.Logic.{inl, inr}
+use mathlib.Core.List.{List, [], _∷_, _++_}
+use Prim.Native.Nat.{ℕ, zero, suc, _+_, _-_, _*_, _≤_, _<_}
+use native.Mathlib.Nat.{mul-le-mul}
+use native.Mathlib.Omega.{arith}
+use native.Mathlib.Decide.{decLt}
+use lib.ListN.{length, take, drop, getD, replicate, length-append, length-drop, List·getD-append}
+use lib.Seq.{getD-take, length-take-le}
+use Rattle.refusals.specs.Order.{FirstOf, OneOf}
+use Rattle.refusals.specs.Sizes.{strengths, depths, information, frameLength, blockLength}
+use Rattle.refusals.specs.Numbers.{verdictNumber, parameterNumber}
+use Rattle.refusals.specs.Calls.{decodeParameters}
+use Rattle.refusals.specs.declared.Parameter.{Parameter}
+use Rattle.refusals.specs.declared.Verdict.{Verdict}
+use Rattle.refusals.specs.declared.Verdict.the-variants as verdict
+use Rattle.refusals.specs.declared.WordRefusal.the-variants.{Parameters, NoCodeword}
+use Rattle.refusals.proofs.Orders.{Numbered, Clear, accepted-clear, not-different, first-passes}
+use Rattle.refusals.proofs.Verdicts.{parameter-nonzero, parameter-not-ten, stopped}
+use Rattle.refusals.proofs.Legal.{LegalWords, legal-words}
+use Rattle.codewords.specs.Words.{Good, differing}
+use Rattle.reed_solomon.specs.declared.Decoded.{Decoded}
+use Rattle.reed_solomon.specs.declared.Decoded.the-variants.{Delivered, Refused}
+use Rattle.reed_solomon.specs.Blocks.{wordOf, sum}
+use Rattle.reed_solomon.specs.Outcome.{Delivery, Lost, LowestLost, DecodeOutcome}
+use Rattle.reed_solomon.specs.Places.{Fitting, HasCodeword, Repaired}
+use Rattle.reed_solomon.proofs.Interleaving.{place-below}
+
+-- ---- what passed parameters say
+
+pub record LegalBlock (e i q s block frame : ℕ) : Type 0 where
+  pub words : LegalWords e i q
+  pub allowance : s ≤ e
+  pub received : block ≡ blockLength i q
+  pub room : frame ≡ frameLength e i q
+
+pub decode-numbers : (e i q s block frame : ℕ) → Numbered (decodeParameters e i q s block frame)
+decode-numbers e i q s block frame = (omega arith, (omega arith, (omega arith, (omega arith, (omega arith, (omega arith, tt))))))
+
+pub legal-block : (e i q s block frame : ℕ) → FirstOf (decodeParameters e i q s block frame) 0 → LegalBlock e i q s block frame
+legal-block e i q s block frame f =
+    let clear : Clear (decodeParameters e i q s block frame) = accepted-clear (decodeParameters e i q s block frame) (decode-numbers e i q s block frame) f in
+    record {
+      words = legal-words e i q (clear .0, (clear .1 .0, (clear .1 .1 .0, tt)));
+      allowance = omega (arith, clear .1 .1 .1 .0);
+      received = not-different block (blockLength i q) (clear .1 .1 .1 .1 .0);
+      room = not-different frame (frameLength e i q) (clear .1 .1 .1 .1 .1 .0);
+    }
+
+pub frame-most : (e i q : ℕ) → LegalWords e i q → frameLength e i q ≤ 2040
+frame-most e i q L = mul-le-mul most (L .deep)
+  where
+    most : information e - q ≤ 255
+    most = omega arith
+
+pub fitting : (e i q s : ℕ) (block repaired : List ℕ) (frame : ℕ) → length repaired ≡ 2040 → FirstOf (decodeParameters e i q s (length block) frame) 0 → Fitting e i q s block repaired
+fitting e i q s block repaired frame size f =
+    let L : LegalBlock e i q s (length block) frame = legal-block e i q s (length block) frame f in
+    record {
+      strength = L .words .strength;
+      allowance = L .allowance;
+      some = L .words .some;
+      deep = L .words .deep;
+      filled = L .words .filled;
+      received = L .received;
+      room = omega (arith, frame-most e i q (L .words));
+    }
+
+pub front-fits : (n : ℕ) (list : List ℕ) → n ≤ length list → length (take n list) ≤ n
+front-fits n list h = omega (arith, length-take-le n list h)
+
+-- ---- the answers
+
+module _ (e i q s : ℕ) (block frame : List ℕ) where
+  pub same-outcome : (a b : Decoded) (c d : List ℕ) (t u : ℕ) (after : List ℕ) → a ≡ b → c ≡ d → t ≡ u
+      → DecodeOutcome e i q s block frame b d u after → DecodeOutcome e i q s block frame a c t after
+  same-outcome a b c d t u after p r x O =
+      subst (λ (y : Decoded). DecodeOutcome e i q s block frame y c t after) (sym p)
+      (subst (λ (y : List ℕ). DecodeOutcome e i q s block frame b y t after) (sym r)
+      (subst (λ (y : ℕ). DecodeOutcome e i q s block frame b d y after) (sym x) O))
+
+  pub refused-parameter : (v : Verdict) (p : Parameter) → v ≡ verdict.Refused p → FirstOf (decodeParameters e i q s (length block) (length frame)) (verdictNumber v)
+      → DecodeOutcome e i q s block frame (Refused (Parameters p)) (replicate 8 0) 0 frame
+  refused-parameter v p is f =
+      record {
+        number = stopped _ (decodeParameters e i q s (length block) (length frame)) v p is f;
+        word = λ ten. absurd (parameter-not-ten p ten);
+        size = (refl, refl);
+        refused = λ n. (refl, refl, refl);
+        delivered = λ z. absurd (parameter-nonzero p z);
+      }
+
+  module _ (f : FirstOf (decodeParameters e i q s (length block) (length frame)) 0) (words : ℕ) (counts : List ℕ) (total len : ℕ) (repaired : List ℕ)
+      (R : Repaired e i q s block words counts total len repaired) where
+    pub refused-word : words < i → DecodeOutcome e i q s block frame (Refused (NoCodeword words)) (replicate 8 0) 0 frame
+    refused-word h =
+        record {
+          number = first-passes (decodeParameters e i q s (length block) (length frame)) 10 (decode-numbers e i q s (length block) (length frame)) f
+              (inl ((words, h, R .stopped h), refl));
+          word = λ ten. record { within = h; lost = R .stopped h; before = λ v l. (R .sofar .each v l .codeword, R .sofar .each v l .good) };
+          size = (refl, refl);
+          refused = λ n. (refl, refl, refl);
+          delivered = λ z. absurd (omega arith);
+        }
+
+    pub frame-within : len ≡ 2040 → length frame ≤ length repaired
+    frame-within room =
+        let L : LegalBlock e i q s (length block) (length frame) = legal-block e i q s (length block) (length frame) f in
+        omega (arith, R .size, L .room, frame-most e i q (L .words))
+
+    pub delivers : i ≤ words → len ≡ 2040 → (after : List ℕ) → after ≡ take (length frame) repaired ++ drop (length (take (length frame) repaired)) frame
+        → DecodeOutcome e i q s block frame Delivered counts total after
+    delivers h room after is =
+        record {
+          number = first-passes (decodeParameters e i q s (length block) (length frame)) 0 (decode-numbers e i q s (length block) (length frame)) f
+              (inr ((λ l. l .2 (D .codewords (l .0)) (D .good (l .0) (l .1))), refl));
+          word = λ ten. absurd (omega arith);
+          size = (ap length is ∙ length-append front (drop (length front) frame) ∙ omega (arith, length-drop (length front) frame, front-size), R .sofar .size);
+          refused = λ n. absurd (n refl);
+          delivered = λ z. D;
+        }
+      where
+        L : LegalBlock e i q s (length block) (length frame)
+        L = legal-block e i q s (length block) (length frame) f
+
+        front : List ℕ
+        front = take (length frame) repaired
+
+        front-size : length front ≡ length frame
+        front-size = length-take-le (length frame) repaired (frame-within room)
+
+        at : (n : ℕ) → n < length frame → getD after n 0 ≡ getD repaired n 0
+        at n l =
+            ap (λ (list : List ℕ). getD list n 0) is ∙ List·getD-append front (drop (length front) frame) 0 n (omega (arith, front-size))
+            ∙ getD-take (length frame) repaired n 0 l
+
+        each : (w : ℕ) → w < i → HasCodeword e i q s block w repaired (getD counts w 0)
+        each w l = R .sofar .each w (omega arith)
+
+        -- a codeword for every number, which is the word's for every word
+        chosen : (w : ℕ) → (c : List ℕ) × (w < i → Good e q s (wordOf i q block w) c
+            × ((k : ℕ) → k < information e - q → getD repaired (k * i + w) 0 ≡ getD c (q + k) 0) × (getD counts w 0 ≡ differing (wordOf i q block w) c))
+        chosen w =
+            elim (decLt w i) [
+              | yes l ↦ (each w l .codeword, λ m. (each w l .good, each w l .symbols, each w l .count-is))
+              | no n ↦ ([], λ l. absurd (n l))
+            ]
+
+        D : Delivery e i q s block after counts total
+        D =
+            record {
+              codewords = λ w. chosen w .0;
+              good = λ w l. chosen w .1 l .0;
+              symbols = λ k w m l. at (k * i + w) (omega (arith, L .room, place-below i k (information e - q) w m l)) ∙ chosen w .1 l .1 k m;
+              count = λ w l. chosen w .1 l .2;
+              beyond = λ w l. R .sofar .beyond w (omega (arith, R .reached));
+              summed = R .sofar .summed;
+            }

@@ -1,0 +1,169 @@
+-- A word of a block and its repair: the symbols sent, the codeword found for them, and the places that they take in a frame.
+use mathlib.Core.Path.{_≡_, refl, sym, ap, ap₂, _∙_, subst}
+use mathlib.Core.Bool.{Bool, true, false, not}
+use borrow.Author.Tests.{not-true, not-false}
+use mathlib.Core.Logic.{_≢_}
+use mathlib.Core.List.{List, [], _∷_, _++_}
+use Prim.Native.Nat.{ℕ, zero, suc, _+_, _-_, _*_, _≤_, _<_}
+use native.Mathlib.Omega.{arith}
+use native.Mathlib.Decide.{ℕ-discrete}
+use lib.Bits.{bitXor}
+use lib.ListN.{length, take, getD, set, replicate, length-set, length-replicate}
+use lib.Seq.{getD-take, getD-append-add, getD-set-same, getD-set-other}
+use Rattle.refusals.specs.Sizes.{information, frameLength, blockLength}
+use Rattle.refusals.proofs.Legal.{strength-bounds}
+use Rattle.field.specs.Field.{_⊕_}
+use Rattle.field.proofs.Sum.{⊕-is}
+use Rattle.codewords.specs.Words.{withFill, Good, differing}
+use Rattle.words.specs.Outcome.{LegalWord, fillOf, repaired, WordOutcome}
+use Rattle.reed_solomon.specs.Blocks.{sentFrom, wordOf, sum}
+use Rattle.reed_solomon.specs.Outcome.{Lost}
+use Rattle.reed_solomon.specs.Places.{Put, Fitting, HasCodeword, WordRepaired, Sofar}
+use Rattle.reed_solomon.proofs.Interleaving.{sent-length}
+
+-- ---- symbols of a repaired word
+
+pub repaired-at : (sent errors : List ℕ) (k : ℕ) → k < length sent → length sent ≤ length errors → getD (repaired sent errors) k 0 ≡ getD sent k 0 ⊕ getD errors k 0
+unfolding repaired
+repaired-at [] errors k h l = absurd (omega arith)
+repaired-at (x ∷ sent) [] k h l = absurd (omega arith)
+repaired-at (x ∷ sent) (error ∷ errors) zero h l = refl
+repaired-at (x ∷ sent) (error ∷ errors) (suc k) h l = repaired-at sent errors k (omega arith) (omega arith)
+
+filled-at : (q : ℕ) (word : List ℕ) (k : ℕ) → getD (withFill q word) (q + k) 0 ≡ getD word k 0
+filled-at q word k =
+    ap (λ (n : ℕ). getD (withFill q word) (n + k) 0) (sym (length-replicate q 0)) ∙ getD-append-add (replicate q 0) word k 0
+
+-- ---- one word
+
+module _ (e i q s : ℕ) (block : List ℕ) (w : ℕ) (frame : List ℕ) (F : Fitting e i q s block frame) where
+  abbrev sent : List ℕ
+  sent = sentFrom i block w 0 (255 - q)
+
+  size : length sent ≡ 255 - q
+  size = sent-length i block w 0 (255 - q)
+
+  fill-is : fillOf sent ≡ q
+  fill-is = omega (arith, size, F .filled)
+
+  legal : LegalWord e s sent
+  legal =
+      record {
+        strength = F .strength;
+        allowance = F .allowance;
+        enough = omega (arith, size, F .filled, strength-bounds e (F .strength) .1);
+        most = omega (arith, size);
+      }
+
+  module _ (found : Bool) (count : ℕ) (errors : List ℕ) (O : WordOutcome e s sent found count errors) where
+    -- no codeword was found, so there is none
+    pub lost : found ≡ false → Lost e i q s block w
+    lost n c G = O .whenNot n .none legal c (subst (λ (f : ℕ). Good e f s (withFill f sent) c) (sym fill-is) G)
+
+    pub few : found ≡ true → count ≤ s
+    few y = omega (arith, O .whenFound y .counted, O .whenFound y .good .close)
+
+    -- one was found, and put into its places
+    pub has : found ≡ true → (symbols after : List ℕ) → take (255 - q) symbols ≡ sent → Put i w (255 - q - 2 * e) symbols errors frame after
+        → HasCodeword e i q s block w after count
+    has y symbols after so P =
+        record {
+          codeword = withFill q (repaired sent errors);
+          good = subst (λ (f : ℕ). Good e f s (withFill f sent) (withFill f (repaired sent errors))) fill-is (O .whenFound y .good);
+          symbols = λ k h. P .here k (omega arith) ∙ ap (λ (x : ℕ). bitXor x (getD errors k 0)) (symbol k h)
+              ∙ sym (⊕-is (getD sent k 0) (getD errors k 0)) ∙ sym (repaired-at sent errors k (omega (arith, size)) (omega (arith, size, O .size)))
+              ∙ sym (filled-at q (repaired sent errors) k);
+          count-is = O .whenFound y .counted ∙ ap (λ (f : ℕ). differing (withFill f sent) (withFill f (repaired sent errors))) fill-is;
+        }
+      where
+        symbol : (k : ℕ) → k < information e - q → getD symbols k 0 ≡ getD sent k 0
+        symbol k h = sym (getD-take (255 - q) symbols k 0 (omega arith)) ∙ ap (λ (l : List ℕ). getD l k 0) so
+
+-- ---- what `repair_word` answers
+
+pub put-room : (e i q s : ℕ) (block frame : List ℕ) → Fitting e i q s block frame → (255 - q - 2 * e) * i ≤ length frame
+put-room e i q s block frame F = subst (λ (n : ℕ). n * i ≤ length frame) (swapped e q) (F .room)
+  where
+    swapped : (e q : ℕ) → information e - q ≡ 255 - q - 2 * e
+    swapped e q = omega arith
+
+pub still-fits : (e i q s : ℕ) (block frame after : List ℕ) → length after ≡ length frame → Fitting e i q s block frame → Fitting e i q s block after
+still-fits e i q s block frame after same F =
+    record { strength = F .strength; allowance = F .allowance; some = F .some; deep = F .deep; filled = F .filled; received = F .received; room = omega (arith, F .room) }
+
+module _ (e i q s : ℕ) (block : List ℕ) (w : ℕ) (frame : List ℕ) (F : Fitting e i q s block frame) (symbols : List ℕ)
+    (so : take (255 - q) symbols ≡ sentFrom i block w 0 (255 - q)) (found : Bool) (count : ℕ) (errors : List ℕ)
+    (O : WordOutcome e s (take (255 - q) symbols) found count errors) where
+  O′ : WordOutcome e s (sentFrom i block w 0 (255 - q)) found count errors
+  O′ = subst (λ (l : List ℕ). WordOutcome e s l found count errors) so O
+
+  pub word-lost : not found ≡ true → WordRepaired e i q s block w frame false 0 frame
+  word-lost n =
+      record {
+        size = refl;
+        others = λ k v h d. refl;
+        whenFound = λ y. let z : _≡_ {A = ℕ} 0 1 = cc in absurd (omega arith);
+        whenNot = λ y. lost e i q s block w frame F found count errors O′ (not-true found n);
+      }
+
+  pub word-found : not found ≡ false → (after : List ℕ) → Put i w (255 - q - 2 * e) symbols errors frame after → WordRepaired e i q s block w frame true count after
+  word-found y after P =
+      record {
+        size = P .size;
+        others = P .others;
+        whenFound = λ t. has e i q s block w frame F found count errors O′ (not-false found y) symbols after so P;
+        whenNot = λ n. let z : _≡_ {A = ℕ} 0 1 = cc in absurd (omega arith);
+      }
+
+-- ---- the words one after the other
+
+sum-set : (counts : List ℕ) (w count : ℕ) → w < length counts → getD counts w 0 ≡ 0 → sum (set counts w count) ≡ sum counts + count
+unfolding sum
+sum-set [] w count h z = absurd (omega arith)
+sum-set (n ∷ counts) zero count h z = omega arith
+sum-set (n ∷ counts) (suc w) count h z = omega (arith, sum-set counts w count (omega arith) z)
+
+sum-zeros : (n : ℕ) → 0 ≡ sum (replicate n 0)
+unfolding sum
+sum-zeros zero = refl
+sum-zeros (suc n) = omega (arith, sum-zeros n)
+
+zeros-at : (n k : ℕ) → _≡_ {A = ℕ} (getD (replicate n 0) k 0) 0
+zeros-at zero k = refl
+zeros-at (suc n) zero = refl
+zeros-at (suc n) (suc k) = zeros-at n k
+
+module _ (e i q s : ℕ) (block : List ℕ) where
+  pub sofar-starts : (frame : List ℕ) → Sofar e i q s block frame (replicate 8 0) 0 0
+  sofar-starts frame = record { each = λ v h. absurd (omega arith); beyond = λ v h. zeros-at 8 v; summed = sum-zeros 8; size = refl }
+
+  pub few-differ : (w : ℕ) (frame : List ℕ) (count : ℕ) → HasCodeword e i q s block w frame count → count ≤ s
+  few-differ w frame count H = omega (arith, H .count-is, H .good .close)
+
+  module _ (before counts : List ℕ) (total w : ℕ) (found : Bool) (count : ℕ) (after : List ℕ) (h : w < i) (S : Sofar e i q s block before counts total w)
+      (R : WordRepaired e i q s block w before found count after) where
+    -- the words before w do not mind what is done with w
+    kept : (v : ℕ) → v < w → HasCodeword e i q s block v after (getD counts v 0)
+    kept v l =
+        record {
+          codeword = S .each v l .codeword;
+          good = S .each v l .good;
+          symbols = λ k m. R .others k v (omega arith) (omega arith) ∙ S .each v l .symbols k m;
+          count-is = S .each v l .count-is;
+        }
+
+    pub sofar-stops : Sofar e i q s block after counts total w
+    sofar-stops = record { each = kept; beyond = S .beyond; summed = S .summed; size = S .size }
+
+    pub sofar-turn : i ≤ 8 → found ≡ true → Sofar e i q s block after (set counts w count) (total + count) (w + 1)
+    sofar-turn deep y =
+        record {
+          each = λ v l. elim (ℕ-discrete v w) [
+            | yes e′ ↦ subst (λ (x : ℕ). HasCodeword e i q s block x after (getD (set counts w count) x 0)) (sym e′)
+                (subst (HasCodeword e i q s block w after) (sym (getD-set-same counts w count 0 (omega (arith, S .size)))) (R .whenFound y))
+            | no d ↦ subst (HasCodeword e i q s block v after) (sym (getD-set-other counts w v count 0 d)) (kept v (omega arith))
+          ];
+          beyond = λ v l. getD-set-other counts w v count 0 (omega arith) ∙ S .beyond v (omega arith);
+          summed = ap (λ (n : ℕ). n + count) (S .summed) ∙ sym (sum-set counts w count (omega (arith, S .size)) (S .beyond w (omega arith)));
+          size = length-set counts w count ∙ S .size;
+        }

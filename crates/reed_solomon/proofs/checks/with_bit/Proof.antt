@@ -1,0 +1,86 @@
+-- `with_bit` adds the row of one bit, octet by octet, through a mask that is zero where the bit is clear.
+use mathlib.Core.Path.{refl, _∙_}
+use Prim.Native.Nat.{ℕ, _≤_, _-_, _+_, _*_, _/_, _%_, _^_}
+use native.Mathlib.Omega.{arith}
+use lib.ListN.{getD}
+use Rattle.field.specs.Field.{_⊕_, whereSet}
+use Rattle.reed_solomon.proofs.Filling.{Filled, filled-start, filled-turn}
+use Rattle.reed_solomon.proofs.StepTables.{mask-added}
+use borrow.Author.Needs.{needs}
+use Rattle.reed_solomon.proofs.checks.with_bit.Statement.{statement}
+use Rattle.reed_solomon.proofs.checks.with_bit.Tie as tie
+
+abbrev Inv-loop : tie.InvT-loop
+Inv-loop table feedback bit mask first sum₀ j₀ sum j =
+    (j ≤ 32)
+    × Filled (λ (n : ℕ). getD sum₀ n 0 ⊕ whereSet (feedback / 2 ^ (7 - bit) % 2) (getD table (32 * bit + n) 0 % 256)) sum₀ 0 j sum
+
+abbrev μ-loop : tie.MeasureT-loop
+μ-loop table feedback bit mask first sum₀ j₀ sum j = 32 - j
+
+sub-mask : tie.Need-sub-mask Inv-loop μ-loop
+sub-mask c = search needs
+
+cast-mask : tie.Need-cast-mask Inv-loop μ-loop
+cast-mask c = search needs
+
+shr-mask : tie.Need-shr-mask Inv-loop μ-loop
+shr-mask c = search needs
+
+mul-mask : tie.Need-mul-mask Inv-loop μ-loop
+mul-mask c = search needs
+
+mul-first : tie.Need-mul-first Inv-loop μ-loop
+mul-first c = search needs
+
+loop-holds : tie.Need-loop-holds Inv-loop μ-loop
+loop-holds c = (omega arith, filled-start _ _ _)
+
+array-read-sum : tie.Need-array-read-sum Inv-loop μ-loop
+array-read-sum c = search needs
+
+add-sum : tie.Need-add-sum Inv-loop μ-loop
+add-sum c = search needs
+
+element-copy-out-sum : tie.Need-element-copy-out-sum Inv-loop μ-loop
+element-copy-out-sum c = search needs
+
+array-write-sum : tie.Need-array-write-sum Inv-loop μ-loop
+array-write-sum c = search needs
+
+add-j : tie.Need-add-j Inv-loop μ-loop
+add-j c = search needs
+
+loop-less : tie.Need-loop-less Inv-loop μ-loop
+loop-less c = search needs
+
+loop-again : tie.Need-loop-again Inv-loop μ-loop
+loop-again c = (
+  omega arith,
+  filled-turn _ _ _ (c .before .before .loop .j) _ _ _ (omega arith) (search needs)
+      (mask-added _ _ _ _ (c .before .before .loop .inv .1 .rest (c .before .before .loop .j) (omega arith))) refl (c .before .before .loop .inv .1),
+)
+
+returns : tie.Need-returns Inv-loop μ-loop
+returns c = record { size = c .before .loop .inv .1 .size ∙ search needs; octet = λ j h. c .before .loop .inv .1 .done j (omega arith) (omega arith) }
+
+pub with-bit-spec : {M : Type 1} → statement M
+with-bit-spec =
+    tie.close
+    (tie.spec
+    Inv-loop
+    μ-loop
+    sub-mask
+    cast-mask
+    shr-mask
+    mul-mask
+    mul-first
+    loop-holds
+    array-read-sum
+    add-sum
+    element-copy-out-sum
+    array-write-sum
+    add-j
+    loop-less
+    loop-again
+    returns)

@@ -1,0 +1,88 @@
+-- `repair_words`: before word w the words before it have their codewords, and as many are counted.
+use borrow.Author.Needs.{needs}
+use mathlib.Core.Path.{_≡_, refl, sym, ap, _∙_}
+use Prim.Native.Nat.{ℕ, _≤_, _-_, _<_, _+_, _*_}
+use native.Mathlib.Omega.{arith}
+use lib.ListN.{length}
+use borrow.Author.Tests.{not-true, not-false}
+use Rattle.refusals.proofs.Legal.{strength-bounds}
+use Rattle.reed_solomon.specs.Places.{Fitting, Sofar}
+use Rattle.reed_solomon.proofs.WordRepairs.{still-fits, sofar-starts, sofar-stops, sofar-turn, few-differ}
+use Rattle.reed_solomon.proofs.decoder.repair_words.Statement.{statement}
+use Rattle.reed_solomon.proofs.decoder.repair_words.Tie as tie
+
+abbrev Inv-loop : tie.InvT-loop
+Inv-loop e depth fill s block frame₀ counts₀ total₀ w₀ frame counts total w =
+    (w ≤ depth) × (length frame ≡ length frame₀) × Sofar e depth fill s block frame counts total w × (total ≤ 16 * w) × Fitting e depth fill s block frame
+
+abbrev μ-loop : tie.MeasureT-loop
+μ-loop e depth fill s block frame₀ counts₀ total₀ w₀ frame counts total w = depth - w
+
+loop-holds : tie.Need-loop-holds Inv-loop μ-loop
+loop-holds c = (omega arith, refl, sofar-starts _ _ _ _ _ _, omega arith, c .before .before .pre)
+
+repair-word-requires : tie.Need-repair-word-requires Inv-loop μ-loop
+repair-word-requires c κs = (c .before .before .loop .inv .4, omega arith)
+
+same-length : tie.Need-same-length Inv-loop μ-loop
+same-length c = c .before .before .before .repair-word .ensures .size ∙ c .before .before .before .before .before .before .loop .inv .1
+
+returns : tie.Need-returns Inv-loop μ-loop
+returns c =
+    record {
+      reached = c .before .before .before .before .before .before .loop .inv .0;
+      sofar = sofar-stops (c .before .before .before .before .before .before .before .before .before .args .e) (c .before .before .before .before .before .before .before .before .before .args .depth) (c .before .before .before .before .before .before .before .before .before .args .fill) (c .before .before .before .before .before .before .before .before .before .args .s) (c .before .before .before .before .before .before .before .before .before .args .block .now) (c .before .before .before .before .before .before .loop .frame) (c .before .before .before .before .before .before .loop .counts) (c .before .before .before .before .before .before .loop .total) (c .before .before .before .before .before .before .loop .w) (c .before .before .before .repair-word .result .found) (c .before .before .before .repair-word .result .count) _ (omega arith) (c .before .before .before .before .before .before .loop .inv .2) (c .before .before .before .repair-word .ensures);
+      stopped = λ h. c .before .before .before .repair-word .ensures .whenNot (not-true _ (c .if1 .taken));
+      size = c .before .before .before .repair-word .ensures .size ∙ c .before .before .before .before .before .before .loop .inv .1;
+    }
+
+cast-counts : tie.Need-cast-counts Inv-loop μ-loop
+cast-counts c = omega (arith, few-differ (c .before .before .before .before .before .before .before .before .before .args .e) (c .before .before .before .before .before .before .before .before .before .args .depth) (c .before .before .before .before .before .before .before .before .before .args .fill) (c .before .before .before .before .before .before .before .before .before .args .s) (c .before .before .before .before .before .before .before .before .before .args .block .now) (c .before .before .before .before .before .before .loop .w) _ (c .before .before .before .repair-word .result .count) (c .before .before .before .repair-word .ensures .whenFound (not-false _ (c .if1 .left))), c .before .before .before .before .before .before .loop .inv .4 .allowance, strength-bounds _ (c .before .before .before .before .before .before .loop .inv .4 .strength) .1)
+
+array-write-counts : tie.Need-array-write-counts Inv-loop μ-loop
+array-write-counts c = omega (arith, c .before .before .before .before .before .before .loop .inv .4 .deep)
+
+add-total : tie.Need-add-total Inv-loop μ-loop
+add-total c = omega (arith, few-differ (c .before .before .before .before .before .before .before .before .before .args .e) (c .before .before .before .before .before .before .before .before .before .args .depth) (c .before .before .before .before .before .before .before .before .before .args .fill) (c .before .before .before .before .before .before .before .before .before .args .s) (c .before .before .before .before .before .before .before .before .before .args .block .now) (c .before .before .before .before .before .before .loop .w) _ (c .before .before .before .repair-word .result .count) (c .before .before .before .repair-word .ensures .whenFound (not-false _ (c .if1 .left))), c .before .before .before .before .before .before .loop .inv .4 .allowance, c .before .before .before .before .before .before .loop .inv .4 .deep, strength-bounds _ (c .before .before .before .before .before .before .loop .inv .4 .strength) .1)
+
+add-w : tie.Need-add-w Inv-loop μ-loop
+add-w c = search needs
+
+loop-less : tie.Need-loop-less Inv-loop μ-loop
+loop-less c = search needs
+
+loop-again : tie.Need-loop-again Inv-loop μ-loop
+loop-again c = (
+  omega arith,
+  c .before .before .before .repair-word .ensures .size ∙ c .before .before .before .before .before .before .loop .inv .1,
+  sofar-turn (c .before .before .before .before .before .before .before .before .before .args .e) (c .before .before .before .before .before .before .before .before .before .args .depth) (c .before .before .before .before .before .before .before .before .before .args .fill) (c .before .before .before .before .before .before .before .before .before .args .s) (c .before .before .before .before .before .before .before .before .before .args .block .now) (c .before .before .before .before .before .before .loop .frame) (c .before .before .before .before .before .before .loop .counts) (c .before .before .before .before .before .before .loop .total) (c .before .before .before .before .before .before .loop .w) (c .before .before .before .repair-word .result .found) (c .before .before .before .repair-word .result .count) _ (omega arith) (c .before .before .before .before .before .before .loop .inv .2) (c .before .before .before .repair-word .ensures) (c .before .before .before .before .before .before .loop .inv .4 .deep) (not-false _ (c .if1 .left)),
+  omega (arith, few-differ (c .before .before .before .before .before .before .before .before .before .args .e) (c .before .before .before .before .before .before .before .before .before .args .depth) (c .before .before .before .before .before .before .before .before .before .args .fill) (c .before .before .before .before .before .before .before .before .before .args .s) (c .before .before .before .before .before .before .before .before .before .args .block .now) (c .before .before .before .before .before .before .loop .w) _ (c .before .before .before .repair-word .result .count) (c .before .before .before .repair-word .ensures .whenFound (not-false _ (c .if1 .left))), c .before .before .before .before .before .before .loop .inv .4 .allowance, strength-bounds _ (c .before .before .before .before .before .before .loop .inv .4 .strength) .1),
+  still-fits _ _ _ _ _ _ _ (c .before .before .before .repair-word .ensures .size) (c .before .before .before .before .before .before .loop .inv .4),
+)
+
+same-length-2 : tie.Need-same-length-2 Inv-loop μ-loop
+same-length-2 c = search needs
+
+returns-2 : tie.Need-returns-2 Inv-loop μ-loop
+returns-2 c =
+    let all : c .before .loop .w ≡ c .before .before .before .before .args .depth = omega arith in
+    record { reached = omega arith; sofar = rw all at (c .before .loop .inv .2); stopped = λ h. absurd (omega arith); size = c .before .loop .inv .1 }
+
+pub repair-words-spec : {M : Type 1} → statement M
+repair-words-spec =
+    tie.close
+    (tie.spec
+    Inv-loop
+    μ-loop
+    loop-holds
+    repair-word-requires
+    same-length
+    returns
+    cast-counts
+    array-write-counts
+    add-total
+    add-w
+    loop-less
+    loop-again
+    same-length-2
+    returns-2)

@@ -1,0 +1,67 @@
+-- What the encoder keeps and writes on the way: rows of check octets, one for each word (document 01, "Codewords").
+use mathlib.Core.Path.{_≡_}
+use mathlib.Core.List.{List, [], _∷_, _++_, map}
+use Prim.Native.Nat.{ℕ, zero, suc, _+_, _-_, _*_, _/_, _%_, _^_, _<_}
+use lib.ListN.{length, take, getD, replicate}
+use Rattle.field.specs.Field.{_⊕_, _·_, whereSet}
+use Rattle.field.specs.Line.{toLine, toConventional}
+use Rattle.codewords.proofs.Polynomials.{_⊞_}
+use Rattle.codewords.proofs.Checks.{Generator}
+
+-- What a feedback octet on the line adds to each octet of a row: its product with the generator, on the line.
+abbrev pub product : ℕ → ℕ → ℕ
+product feedback coefficient = toLine (toConventional feedback · coefficient)
+
+-- A word's check octets, on the line, when one more information symbol enters: they move up one place, and the product of the
+-- generator with the feedback, the symbol plus the first check octet, is added.
+unfoldable pub entered : List ℕ → List ℕ → ℕ → List ℕ
+entered generator [] symbol = []
+entered generator (first ∷ row) symbol = (row ++ (0 ∷ [])) ⊞ map (product (symbol ⊕ first)) generator
+
+-- The table of a generator: for each bit of the feedback, top bit first, what that bit alone adds.
+unfoldable pub tableRows : List ℕ → List ℕ → List ℕ
+tableRows generator [] = []
+tableRows generator (bit ∷ bits) = map (product bit) generator ++ tableRows generator bits
+
+abbrev pub tableOf : List ℕ → List ℕ
+tableOf generator = tableRows generator (128 ∷ 64 ∷ 32 ∷ 16 ∷ 8 ∷ 4 ∷ 2 ∷ 1 ∷ [])
+
+-- A generator of strength e in a row of 32: zeros follow its 2e coefficients.
+abbrev pub inRow : ℕ → List ℕ → List ℕ
+inRow e generator = generator ++ replicate (32 - (e + e)) 0
+
+-- The table of the generator of strength e.
+pub record StrengthTable (e : ℕ) (table : List ℕ) : Type 0 where
+  pub generator : List ℕ
+  pub right : Generator (128 - e) (e + e) generator
+  pub listed : table ≡ tableOf (inRow e generator)
+
+-- Each octet of a row stands one place further up, and a zero comes in.
+pub record MovedUp (row moved : List ℕ) : Type 0 where
+  pub size : length moved ≡ 32
+  pub octet : (j : ℕ) → j < 32 → getD moved j 0 ≡ getD row (suc j) 0
+
+-- A row with what one bit of the feedback adds, where that bit is set.
+pub record BitAdded (table : List ℕ) (feedback bit : ℕ) (row sum : List ℕ) : Type 0 where
+  pub size : length sum ≡ 32
+  pub octet : (j : ℕ) → j < 32 → getD sum j 0 ≡ getD row j 0 ⊕ whereSet (feedback / 2 ^ (7 - bit) % 2) (getD table (32 * bit + j) 0 % 256)
+
+-- The row when one more symbol of its word has entered, whichever generator the table is of.
+abbrev pub Stepped : List ℕ → List ℕ → ℕ → List ℕ → Type 0
+Stepped table row symbol after = (generator : List ℕ) → length generator ≡ 32 → table ≡ tableOf generator → after ≡ entered generator row symbol
+
+-- The checks of word w of a frame of depth i after its first k symbols, in a row of 32.
+unfoldable pub rowAfter : List ℕ → ℕ → List ℕ → ℕ → ℕ → List ℕ
+rowAfter generator i frame w zero = replicate 32 0
+rowAfter generator i frame w (suc k) = entered generator (rowAfter generator i frame w k) (getD frame (k * i + w) 0)
+
+-- The rows are those of the words after the whole frame, whichever generator the table is of.
+abbrev pub RowsDone : List ℕ → ℕ → List ℕ → List (List ℕ) → Type 0
+RowsDone table i frame rows =
+    (generator : List ℕ) → length generator ≡ 32 → table ≡ tableOf generator → (k : ℕ) → length frame ≡ k * i → (w : ℕ) → w < i → getD rows w [] ≡ rowAfter generator i frame w k
+
+-- From octet `start` on the block holds the rows interleaved; what stands before is as it was.
+pub record ChecksPut (rows : List (List ℕ)) (i start : ℕ) (before after : List ℕ) : Type 0 where
+  pub size : length after ≡ length before
+  pub front : take start after ≡ take start before
+  pub checks : (j w : ℕ) → w < i → start + (j * i + w) < length before → getD after (start + (j * i + w)) 0 ≡ getD (getD rows w []) j 0

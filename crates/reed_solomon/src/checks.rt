@@ -1,0 +1,54 @@
+// A word's row of check octets, as they stand on the line, while information symbols enter.
+ghost use Prim.Native.Nat.{_<_};
+ghost use Rattle.refusals.specs.Order.{OneOf};
+ghost use Rattle.refusals.specs.Sizes.{strengths};
+ghost use Rattle.reed_solomon.specs.Working.{StrengthTable, MovedUp, BitAdded, Stepped};
+use crate::table_8::TABLE_8;
+use crate::table_16::TABLE_16;
+
+pub(crate) fn table_of(e: u32) -> [u8; 256]
+    requires { ⌜ OneOf strengths e ⌝ }
+    ensures { λ r. ⌜ StrengthTable e r ⌝ }
+{
+    if e == 8 {
+        return TABLE_8;
+    }
+    TABLE_16
+}
+
+fn moved_up(row: [u8; 32]) -> [u8; 32]
+    ensures { λ r. ⌜ MovedUp row r ⌝ }
+{
+    let mut moved = [0u8; 32];
+    for j in 0usize..31 {
+        moved[j] = row[j + 1];
+    }
+    moved
+}
+
+// A mask in place of a branch: the loop then works on the whole row at once.
+fn with_bit(table: &[u8; 256], feedback: u8, bit: usize, row: [u8; 32]) -> [u8; 32]
+    requires { ⌜ bit < 8 ⌝ }
+    ensures { λ r. ⌜ BitAdded (now (table .entry)) feedback bit row r ⌝ }
+{
+    let mask = 255 * ((feedback >> (7 - bit)) % 2);
+    let first = 32 * bit;
+    let mut sum = row;
+    for j in 0..32 {
+        sum[j] = sum[j] ^ (mask & table[first + j]);
+    }
+    sum
+}
+
+// Over one row alone, so that a frame can enter whole or in portions by the same step.
+pub(crate) fn stepped(table: &[u8; 256], row: [u8; 32], symbol: u8) -> [u8; 32]
+    ensures { λ r. ⌜ Stepped (now (table .entry)) row symbol r ⌝ }
+{
+    let feedback = symbol ^ row[0];
+    let mut sum = moved_up(row);
+    for bit in 0..8 {
+        let more = with_bit(table, feedback, bit, sum);
+        sum = more;
+    }
+    sum
+}

@@ -1,0 +1,65 @@
+// Encoding of a whole frame: its words' checks, and the block with frame and checks.
+ghost use mathlib.Core.Path.{_≡_};
+ghost use mathlib.Core.List.{_++_};
+ghost use Prim.Native.Nat.{_+_, _*_, _≤_, _<_};
+ghost use lib.ListN.{length};
+ghost use Rattle.reed_solomon.specs.Working.{RowsDone, ChecksPut};
+ghost use Rattle.reed_solomon.specs.Outcome.{EncodeOutcome};
+use crate::checks::stepped;
+use crate::checks::table_of;
+use crate::octets::copy_front;
+use refusals::Verdict;
+
+// Octet n enters word n mod depth: a counter that starts anew spares a division for each octet.
+fn rows_of(table: &[u8; 256], frame: &[u8], depth: usize) -> [[u8; 32]; 8]
+    requires { ⌜ (0 < depth) × (depth ≤ 8) ⌝ }
+    ensures { λ r. ⌜ RowsDone (now (table .entry)) depth (now (frame .entry)) r ⌝ }
+{
+    let mut rows = [[0u8; 32]; 8];
+    let mut word = 0usize;
+    let n = frame.len();
+    for at in 0..n {
+        let row = rows[word];
+        rows[word] = stepped(table, row, frame[at]);
+        word += 1;
+        if word == depth {
+            word = 0;
+        }
+    }
+    rows
+}
+
+// The checks follow the frame, interleaved as it is.
+fn put_checks(rows: [[u8; 32]; 8], depth: usize, start: usize, block: &mut [u8])
+    requires { ⌜ (0 < depth) × (depth ≤ 8) × (start ≤ length (now block)) × (length (now block) ≤ start + 32 * depth) ⌝ }
+    ensures { λ _. ⌜ ChecksPut rows depth start (now (block .entry)) (now (block .exit)) ⌝ }
+{
+    let mut word = 0usize;
+    let mut check = 0usize;
+    let n = block.len();
+    for at in start..n {
+        let checks = rows[word];
+        block[at] = checks[check];
+        word += 1;
+        if word == depth {
+            word = 0;
+            check += 1;
+        }
+    }
+}
+
+// Nothing is written before every check has passed: a refusal leaves the block as it was.
+pub fn encode(e: u32, depth: u32, fill: u32, frame: &[u8], block: &mut [u8]) -> Verdict
+    ensures { λ answer. ⌜ EncodeOutcome e depth fill (now (frame .entry)) (now (block .entry)) answer (now (block .exit)) ⌝ }
+{
+    let verdict = refusals::encode_parameters(e, depth, fill, frame.len(), block.len());
+    if let Verdict::Refused(p) = verdict {
+        return Verdict::Refused(p);
+    }
+    let words = depth as usize;
+    let table = table_of(e);
+    let rows = rows_of(&table, frame, words);
+    copy_front(frame, block);
+    put_checks(rows, words, frame.len(), block);
+    Verdict::Accepted
+}
