@@ -12,3 +12,4 @@ pub mod Deliveries
 pub mod Deliverable
 pub mod DecodeSettled
 pub mod Conditions
+pub mod Fakes
