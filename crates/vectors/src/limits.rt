@@ -1,4 +1,6 @@
-// The checks of parameters and lengths that the calls on words share, at every limit and one past it.
+// The checks of parameters and lengths that the calls on words share, and encode and decode themselves, at every limit and one past it.
+ghost use Prim.Native.Nat.{_≤_};
+use crate::calls;
 use crate::print;
 
 // Encode and transmit, decode and receive, with lengths that are right but for what is added to them.
@@ -17,6 +19,43 @@ fn all_four(e: u32, depth: u32, fill: u32, s: u32, tolerance: u32, frame: usize,
         frame,
     )));
     print::end();
+    if frame <= 2048 {
+        if block <= 2304 {
+            there_and_back(e, depth, fill, s, frame, block);
+        }
+    }
+}
+
+// Encode into a block that holds 170 before, and decode of what then stands there; after a refusal that is the 170s.
+fn both(
+    e: u32,
+    depth: u32,
+    fill: u32,
+    s: u32,
+    frame: &[u8],
+    block: &mut [u8],
+    delivered: &mut [u8],
+) {
+    calls::encode(e, depth, fill, frame, &mut *block);
+    calls::decode(e, depth, fill, s, block, delivered);
+}
+
+fn there_and_back(e: u32, depth: u32, fill: u32, s: u32, frame: usize, block: usize)
+    requires { ⌜ (frame ≤ 2048) × (block ≤ 2304) ⌝ }
+{
+    let mut given = [0u8; 2048];
+    let mut coded = [170u8; 2304];
+    let mut delivered = [170u8; 2048];
+    print::fill(5, &mut given);
+    both(
+        e,
+        depth,
+        fill,
+        s,
+        &given[0..frame],
+        &mut coded[0..block],
+        &mut delivered[0..frame],
+    );
 }
 
 fn strengths() {
@@ -72,10 +111,21 @@ fn lengths() {
     all_four(16, 5, 0, 16, 3, 0, 0);
 }
 
+// Two faults at once: the one that comes first in the order is the answer.
+fn pairs() {
+    all_four(7, 6, 0, 0, 0, 1, 33);
+    all_four(16, 6, 223, 16, 3, 1, 33);
+    all_four(16, 1, 223, 17, 3, 1, 33);
+    all_four(16, 1, 222, 17, 3, 1, 32);
+    all_four(16, 1, 222, 17, 3, 2, 33);
+    all_four(16, 1, 222, 16, 3, 2, 32);
+}
+
 pub fn all() {
     strengths();
     depths();
     fills();
     allowances();
     lengths();
+    pairs();
 }

@@ -1,5 +1,7 @@
-// Runs the small coders on the documents' tables, on worked cases, at every limit and one past it. The expected output is not
+// Runs the coders on the documents' tables, on worked cases, at every limit and one past it. The expected output is not
 // made by this code: docs/src/README.md says where each line comes from.
+mod calls;
+mod coding;
 mod convolving;
 mod limits;
 mod marking;
@@ -13,4 +15,5 @@ fn main() {
     marking::all();
     convolving::all();
     limits::all();
+    coding::all();
 }

@@ -25,10 +25,18 @@ pub fn end() {
     io::write_all(STDOUT_FILENO, b"\n");
 }
 
-fn octets(s: &[u8]) {
+pub fn octets(s: &[u8]) {
     let n = s.len();
     for i in 0..n {
         octet(s[i]);
+    }
+}
+
+// Octets as numbers.
+pub fn numbers(s: &[u8]) {
+    let n = s.len();
+    for i in 0..n {
+        number(wide(s[i]));
     }
 }
 

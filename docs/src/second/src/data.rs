@@ -1,10 +1,15 @@
 //! Octets that stand in for data, and how a buffer is written.
 
+/// The next of the numbers that stand in for data.
+pub fn turn(x: u32) -> u32 {
+    (x * 25173 + 13849) % 65536
+}
+
 pub fn drawn(seed: u32, n: usize) -> Vec<u8> {
     let mut x = seed;
     (0..n)
         .map(|_| {
-            x = (x * 25173 + 13849) % 65536;
+            x = turn(x);
             (x >> 8) as u8
         })
         .collect()

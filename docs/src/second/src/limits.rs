@@ -1,5 +1,8 @@
 //! The checks of parameters and lengths, by the table and the orders of document 01.
 
+use crate::blocks::Code;
+use crate::data::drawn;
+
 struct Call {
     e: u64,
     i: u64,
@@ -12,7 +15,7 @@ struct Call {
     required_output: u64,
 }
 
-fn due(number: u32, c: &Call) -> bool {
+fn due(number: u64, c: &Call) -> bool {
     match number {
         1 => c.e != 8 && c.e != 16,
         2 => ![1, 2, 3, 4, 5, 8].contains(&c.i),
@@ -25,48 +28,67 @@ fn due(number: u32, c: &Call) -> bool {
     }
 }
 
-fn first(order: &[u32], c: &Call) -> u32 {
+fn first(order: &[u64], c: &Call) -> u64 {
     order.iter().copied().find(|&n| due(n, c)).unwrap_or(0)
 }
 
-fn all_four(e: u64, i: u64, q: u64, s: u64, t: u64, frame: u64, block: u64) {
-    let k = 255i64 - 2 * e as i64;
-    let frame_required = ((k - q as i64) * i as i64) as u64;
-    let block_required = ((255 - q as i64) * i as i64) as u64;
-    let out = |extra: u64| Call {
+/// Symbols per word times depth. A strength or a fill that is refused may make it nonsense; nothing asks for it then.
+fn octets(symbols: i64, i: u64) -> u64 {
+    symbols.wrapping_mul(i as i64) as u64
+}
+
+fn information(e: u64, q: u64) -> i64 {
+    255 - 2 * e as i64 - q as i64
+}
+
+/// A call that takes a frame and gives a block with so many octets in front.
+fn outgoing(e: u64, i: u64, q: u64, frame: u64, block: u64, front: u64) -> Call {
+    Call {
         e,
         i,
         q,
-        s,
-        t,
+        s: 0,
+        t: 0,
         input: frame,
-        required_input: frame_required,
+        required_input: octets(information(e, q), i),
         output: block,
-        required_output: block_required.wrapping_add(extra),
-    };
-    let back = |extra: u64| Call {
-        e,
-        i,
-        q,
+        required_output: octets(255 - q as i64, i).wrapping_add(front),
+    }
+}
+
+/// A call that takes a block with so many octets in front and gives a frame.
+fn incoming(outgoing: Call, s: u64, t: u64) -> Call {
+    Call {
         s,
         t,
-        input: block,
-        required_input: block_required.wrapping_add(extra),
-        output: frame,
-        required_output: frame_required,
-    };
-    println!(
-        "limits {} {} {} {}",
-        first(&[1, 2, 3, 5, 6], &out(0)),
-        first(&[1, 2, 3, 5, 6], &out(4)),
-        first(&[1, 2, 3, 4, 5, 6], &back(0)),
-        first(&[1, 2, 3, 4, 8, 5, 6], &back(4)),
-    );
+        input: outgoing.output,
+        required_input: outgoing.required_output,
+        output: outgoing.input,
+        required_output: outgoing.required_input,
+        ..outgoing
+    }
+}
+
+pub fn encode_number(e: u64, i: u64, q: u64, frame: u64, block: u64) -> u64 {
+    first(&[1, 2, 3, 5, 6], &outgoing(e, i, q, frame, block, 0))
+}
+
+fn transmit_number(e: u64, i: u64, q: u64, frame: u64, block: u64) -> u64 {
+    first(&[1, 2, 3, 5, 6], &outgoing(e, i, q, frame, block, 4))
+}
+
+/// Decode's number but for 10.
+pub fn decode_number(e: u64, i: u64, q: u64, s: u64, block: u64, frame: u64) -> u64 {
+    first(&[1, 2, 3, 4, 5, 6], &incoming(outgoing(e, i, q, frame, block, 0), s, 0))
+}
+
+fn receive_number(e: u64, i: u64, q: u64, s: u64, t: u64, block: u64, frame: u64) -> u64 {
+    first(&[1, 2, 3, 4, 8, 5, 6], &incoming(outgoing(e, i, q, frame, block, 4), s, t))
 }
 
 const M: u64 = u32::MAX as u64;
 
-const CASES: [[u64; 7]; 37] = [
+const CASES: [[u64; 7]; 43] = [
     [0, 1, 0, 0, 0, 255, 255],
     [7, 1, 0, 0, 0, 241, 255],
     [8, 1, 0, 8, 3, 239, 255],
@@ -104,10 +126,25 @@ const CASES: [[u64; 7]; 37] = [
     [16, 5, 0, 16, 3, 1115, 1279],
     [16, 5, 0, 16, 3, 1114, 1278],
     [16, 5, 0, 16, 3, 0, 0],
+    [7, 6, 0, 0, 0, 1, 33],
+    [16, 6, 223, 16, 3, 1, 33],
+    [16, 1, 223, 17, 3, 1, 33],
+    [16, 1, 222, 17, 3, 1, 32],
+    [16, 1, 222, 17, 3, 2, 33],
+    [16, 1, 222, 16, 3, 2, 32],
 ];
 
 pub fn write_all() {
     for [e, i, q, s, t, frame, block] in CASES {
-        all_four(e, i, q, s, t, frame, block);
+        println!(
+            "limits {} {} {} {}",
+            encode_number(e, i, q, frame, block),
+            transmit_number(e, i, q, frame, block),
+            decode_number(e, i, q, s, block, frame),
+            receive_number(e, i, q, s, t, block, frame),
+        );
+        let code = Code { e, i, q };
+        let coded = code.write_encode(&drawn(5, frame as usize), &vec![170; block as usize]);
+        code.write_decode(s, &coded, frame as usize);
     }
 }

@@ -1,12 +1,17 @@
 //! The second program: document 01 once more, in plain Rust and by other methods than the proved code.
-//! `second vectors` writes what the program `vectors` must write.
+//! `second NAME` writes what the program NAME must write.
 
+mod blocks;
+mod compare;
 mod convolution;
 mod data;
+mod field;
 mod limits;
 mod marker;
 mod randomiser;
+mod reed_solomon;
 mod symbols;
+mod word;
 
 fn main() {
     match std::env::args().nth(1).as_deref() {
@@ -16,7 +21,9 @@ fn main() {
             marker::write_all();
             convolution::write_all();
             limits::write_all();
+            reed_solomon::write_all();
         }
-        _ => eprintln!("second vectors"),
+        Some("compare") => compare::write_all(),
+        _ => eprintln!("second vectors | second compare"),
     }
 }

@@ -2,7 +2,7 @@
 
 const TABLE: &str = include_str!("../table_b1.txt");
 
-fn rows() -> Vec<(String, u8, u8)> {
+pub fn rows() -> Vec<(String, u8, u8)> {
     TABLE
         .lines()
         .map(|line| {

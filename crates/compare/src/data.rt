@@ -1,0 +1,28 @@
+// Numbers that stand in for data.
+
+pub fn turn(x: u32) -> u32 {
+    (x % 65536 * 25173 + 13849) % 65536
+}
+
+pub fn drawn(x: u32) -> u8 {
+    (x / 256 % 256) as u8
+}
+
+pub fn fill(x: u32, s: &mut [u8]) {
+    let n = s.len();
+    let mut y = x;
+    for i in 0..n {
+        y = turn(y);
+        s[i] = drawn(y);
+    }
+}
+
+// The front of `out` becomes `octets`, as far as both reach.
+pub fn copy(octets: &[u8], out: &mut [u8]) {
+    let n = octets.len();
+    if n <= out.len() {
+        for i in 0..n {
+            out[i] = octets[i];
+        }
+    }
+}
