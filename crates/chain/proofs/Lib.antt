@@ -1,0 +1,6 @@
+-- The laws of the chains, and the conditions of acceptance for the whole.
+pub mod Opening
+pub mod Transmissions
+pub mod Receptions
+pub mod Stages
+pub mod Settled

@@ -1,0 +1,256 @@
+-- What `receive` answers: refused for a parameter, refused for the marker, or as decode answers for the block opened.
+use mathlib.Core.Path.{_≡_, refl, sym, ap, ap₂, _∙_, subst}
+use mathlib.Core.Bool.{Bool}
+use mathlib.Core.Logic.{_≢_, _⊎_, inl, inr}
+use mathlib.Core.List.{List, [], _∷_, _++_, append-nil}
+use Prim.Native.Nat.{ℕ, _+_, _-_, _*_, _≤_, _<_}
+use native.Mathlib.Nat.{le-of-eq}
+use native.Mathlib.Omega.{arith}
+use lib.ListN.{length, take, drop, replicate, length-append, length-drop, drop-of-length-le}
+use lib.Seq.{take-all, take-at, length-take-le}
+use Rattle.refusals.specs.Order.{Check, FirstOf}
+use Rattle.refusals.specs.Sizes.{frameLength, blockLength, markedLength}
+use Rattle.refusals.specs.Numbers.{verdictNumber, parameterNumber, markerNumber, wordNumber}
+use Rattle.refusals.specs.Calls.{marker, word, markerParameters, markerOrder, decodeParameters, decodeOrder, receiveParameters, receiveOrder}
+use Rattle.refusals.specs.declared.Parameter.{Parameter}
+use Rattle.refusals.specs.declared.Verdict.{Verdict}
+use Rattle.refusals.specs.declared.Verdict.the-variants as verdict
+use Rattle.refusals.specs.declared.MarkerRefusal.{MarkerRefusal}
+use Rattle.refusals.specs.declared.MarkerRefusal.the-variants as refusal
+use Rattle.refusals.specs.declared.WordRefusal.{WordRefusal}
+use Rattle.refusals.specs.declared.WordRefusal.the-variants as lost
+use Rattle.refusals.proofs.Orders.{Begins, Clear, Numbered, accepted-clear, clear-accepted, not-different, first-unique, first-passes, first-accepts}
+use Rattle.refusals.proofs.Verdicts.{parameter-nonzero, parameter-not-nine, parameter-not-ten, same-verdict, passed, stopped}
+use Rattle.refusals.proofs.Legal.{LegalWords, legal-words}
+use Rattle.marker.specs.Place.{wrongBits}
+use Rattle.marker.specs.Numbers.{testedNumber, testedValue}
+use Rattle.marker.specs.Outcome.{TestOutcome}
+use Rattle.marker.specs.declared.Tested.{Tested}
+use Rattle.marker.specs.declared.Tested.the-variants as tested
+use Rattle.reed_solomon.specs.declared.Decoded.{Decoded}
+use Rattle.reed_solomon.specs.declared.Decoded.the-variants as decoded
+use Rattle.reed_solomon.specs.Outcome.{Lost, DecodeOutcome, decodedNumber}
+use Rattle.reed_solomon.proofs.Deliverable.{SomeLost, Order}
+use Rattle.reed_solomon.proofs.Deliveries.{decode-numbers}
+use Rattle.chain.specs.declared.Stage.the-variants.{Parameters, Marker, Word}
+use Rattle.chain.specs.declared.Received.{Received}
+use Rattle.chain.specs.declared.Received.the-variants.{Delivered, Refused}
+use Rattle.chain.specs.Outcome.{randomisedIf, opened, receivedNumber, wordStage, StageRefuses, AsDecode, ReceiveOutcome}
+use Rattle.chain.specs.Working.{BlockOpened, DecodedPart}
+use Rattle.chain.proofs.Opening.{randomised-length, wrong-in-front}
+use Rattle.chain.proofs.Transmissions.{block-most}
+
+-- An order whose first checks are not due is answered by the rest.
+pub first-goes-on : {rest : Type 0} (front : List Check) (n : ℕ) → Clear front → Begins front n rest → rest
+first-goes-on [] n clear b = b
+first-goes-on (check ∷ later) n clear (inl due) = absurd (clear .0 (due .0))
+first-goes-on (check ∷ later) n clear (inr b) = first-goes-on later n (clear .1) (b .1)
+
+-- Decode's answer keeps its number.
+pub stage-number : (d : Decoded) → receivedNumber (wordStage d) ≡ decodedNumber d
+stage-number decoded.Delivered = refl
+stage-number (decoded.Refused r) = refl
+
+-- ---- lengths
+
+pub record ReceiveLegal (e i q s t marked frame : ℕ) : Type 0 where
+  pub words : LegalWords e i q
+  pub allowance : s ≤ e
+  pub tolerance : t ≤ 3
+  pub input : marked ≡ markedLength i q
+  pub output : frame ≡ frameLength e i q
+
+pub receive-numbers : (e i q s t marked frame : ℕ) → Numbered (receiveParameters e i q s t marked frame)
+receive-numbers e i q s t marked frame = (omega arith, (omega arith, (omega arith, (omega arith, (omega arith, (omega arith, (omega arith, tt)))))))
+
+receive-clear : (e i q s t marked frame : ℕ) → FirstOf (receiveParameters e i q s t marked frame) 0 → Clear (receiveParameters e i q s t marked frame)
+receive-clear e i q s t marked frame = accepted-clear (receiveParameters e i q s t marked frame) (receive-numbers e i q s t marked frame)
+
+pub receive-legal : (e i q s t marked frame : ℕ) → FirstOf (receiveParameters e i q s t marked frame) 0 → ReceiveLegal e i q s t marked frame
+receive-legal e i q s t marked frame f =
+    let clear : Clear (receiveParameters e i q s t marked frame) = receive-clear e i q s t marked frame f in
+    record {
+      words = legal-words e i q (clear .0, (clear .1 .0, (clear .1 .1 .0, tt)));
+      allowance = omega (arith, clear .1 .1 .1 .0);
+      tolerance = omega (arith, clear .1 .1 .1 .1 .0);
+      input = not-different marked (markedLength i q) (clear .1 .1 .1 .1 .1 .0);
+      output = not-different frame (frameLength e i q) (clear .1 .1 .1 .1 .1 .1 .0);
+    }
+
+-- What receive accepts, decode accepts for a block that is four octets shorter.
+pub decode-passes : (e i q s t marked frame block : ℕ) → marked ≡ block + 4 → FirstOf (receiveParameters e i q s t marked frame) 0 → FirstOf (decodeParameters e i q s block frame) 0
+decode-passes e i q s t marked frame block size f =
+    let clear : Clear (receiveParameters e i q s t marked frame) = receive-clear e i q s t marked frame f in
+    let legal : ReceiveLegal e i q s t marked frame = receive-legal e i q s t marked frame f in
+    clear-accepted (decodeParameters e i q s block frame)
+    (clear .0, (clear .1 .0, (clear .1 .1 .0, (clear .1 .1 .1 .0, ((λ n. n (omega (arith, legal .input))), (clear .1 .1 .1 .1 .1 .1 .0, tt))))))
+
+-- ---- the block opened
+
+-- What stands in front of the list once the block was copied there, and lent, and came back opened.
+copied-front : (block before copied : List ℕ) → copied ≡ block ++ drop (length block) before → take (length block) copied ≡ block
+copied-front block before copied copy = ap (take (length block)) copy ∙ take-at block (drop (length block) before) (length block) refl
+
+pub copied-size : (block before copied : List ℕ) → copied ≡ block ++ drop (length block) before → length (take (length block) copied) ≡ length block
+copied-size block before copied copy = ap length (copied-front block before copied copy)
+
+pub block-opened : (flag : Bool) (block before copied put : List ℕ) → length block ≤ length before → copied ≡ block ++ drop (length block) before
+    → put ≡ randomisedIf flag (take (length block) copied) → BlockOpened flag block before (put ++ drop (length block) copied)
+block-opened flag block before copied put fits copy is =
+    record {
+      size = length-append put (drop (length block) copied) ∙ omega (arith, put-size, length-drop (length block) copied, ap length copy, length-append block (drop (length block) before), length-drop (length block) before);
+      front = take-at put (drop (length block) copied) (length block) put-size ∙ put-is;
+    }
+  where
+    put-is : put ≡ randomisedIf flag block
+    put-is = is ∙ ap (randomisedIf flag) (copied-front block before copied copy)
+
+    put-size : length put ≡ length block
+    put-size = ap length put-is ∙ randomised-length flag block
+
+pub opened-size : (flag : Bool) (block before after : List ℕ) → BlockOpened flag block before after → length block ≡ length (take (length block) after)
+opened-size flag block before after B = sym (ap length (B .front) ∙ randomised-length flag block)
+
+pub part-decoded : (e i q s : ℕ) (flag : Bool) (block frame : List ℕ) (front : List ℕ) (answer : Received) (given : Decoded) (counts : List ℕ) (total : ℕ) (after : List ℕ)
+    → front ≡ randomisedIf flag block → DecodeOutcome e i q s front frame given counts total after → answer ≡ wordStage given
+    → DecodedPart e i q s flag block frame answer counts total after
+part-decoded e i q s flag block frame front answer given counts total after is O same =
+    record { answered = given; same = same; outcome = subst (λ (list : List ℕ). DecodeOutcome e i q s list frame given counts total after) is O }
+
+-- ---- receive
+
+module _ (e i q s t : ℕ) (flag : Bool) (marked frame : List ℕ) where
+  pub same-reception : (a b : Received) (c d : List ℕ) (m n : ℕ) (after : List ℕ) → a ≡ b → c ≡ d → m ≡ n
+      → ReceiveOutcome e i q s t flag marked frame b d n after → ReceiveOutcome e i q s t flag marked frame a c m after
+  same-reception a b c d m n after p r x O =
+      subst (λ (y : Received). ReceiveOutcome e i q s t flag marked frame y c m after) (sym p)
+      (subst (λ (y : List ℕ). ReceiveOutcome e i q s t flag marked frame b y m after) (sym r)
+      (subst (λ (y : ℕ). ReceiveOutcome e i q s t flag marked frame b d y after) (sym x) O))
+
+  abbrev Parameters-of : ℕ → Type 0
+  Parameters-of = FirstOf (receiveParameters e i q s t (length marked) (length frame))
+
+  module _ (v : Verdict) (first : Parameters-of (verdictNumber v)) where
+    pub stopped-at-parameters : (p : Parameter) → v ≡ verdict.Refused p → ReceiveOutcome e i q s t flag marked frame (Refused (Parameters p)) (replicate 8 0) 0 frame
+    stopped-at-parameters p is =
+        record {
+          number = stopped _ (receiveParameters e i q s t (length marked) (length frame)) v p is first;
+          stage = refuses;
+          size = (refl, refl);
+          refused = λ n. (refl, refl, refl);
+          past = λ pass fits. absurd (parameter-nonzero p (first-unique (receiveParameters e i q s t (length marked) (length frame)) (parameterNumber p) 0 refuses pass));
+        }
+      where
+        refuses : Parameters-of (parameterNumber p)
+        refuses = same-verdict (receiveParameters e i q s t (length marked) (length frame)) v (verdict.Refused p) is first
+
+    module _ (accepts : v ≡ verdict.Accepted) where
+      f : Parameters-of 0
+      f = passed (receiveParameters e i q s t (length marked) (length frame)) v accepts first
+
+      L : ReceiveLegal e i q s t (length marked) (length frame)
+      L = receive-legal e i q s t (length marked) (length frame) f
+
+      pub four-at-least : 4 ≤ length marked
+      four-at-least = omega (arith, L .input)
+
+      -- the part after the marker, as it is lent
+      abbrev part : List ℕ
+      part = take (length marked - 4) (drop 4 marked)
+
+      part-is : part ≡ drop 4 marked
+      part-is = take-all (length marked - 4) (drop 4 marked) (le-of-eq (length-drop 4 marked))
+
+      pub part-within : length part ≤ 2040
+      part-within = omega (arith, ap length part-is, length-drop 4 marked, L .input, block-most e i q (L .words))
+
+      abbrev octets : List ℕ
+      octets = take 4 marked
+
+      -- the marker test's own checks have passed
+      tests : FirstOf (markerParameters t (length octets)) 0
+      tests = clear-accepted (markerParameters t (length octets)) ((λ over. omega (arith, L .tolerance)), ((λ n. n (length-take-le 4 marked four-at-least)), tt))
+
+      -- the wrong bits decide
+      decided : (a : Tested) → TestOutcome t octets a → FirstOf (marker t (wrongBits octets 0) ∷ []) (testedNumber a)
+      decided a T = first-goes-on (markerParameters t (length octets)) (testedNumber a) (accepted-clear (markerParameters t (length octets)) (omega arith, (omega arith, tt)) tests) (T .number)
+
+      marker-fits : (a : Tested) (wrong : ℕ) → TestOutcome t octets a → a ≡ tested.Accepted wrong → wrongBits marked 0 ≤ t
+      marker-fits a wrong T is = fits (subst (λ (x : Tested). FirstOf (marker t (wrongBits octets 0) ∷ []) (testedNumber x)) is (decided a T))
+        where
+          fits : FirstOf (marker t (wrongBits octets 0) ∷ []) 0 → wrongBits marked 0 ≤ t
+          fits (inl (over, z)) = absurd (omega arith)
+          fits (inr (within, z)) = omega (arith, wrong-in-front marked)
+
+      marker-refuses : (a : Tested) (r : MarkerRefusal) → TestOutcome t octets a → a ≡ tested.Refused r → (r ≡ refusal.WrongBits (wrongBits marked 0)) × (t < wrongBits marked 0)
+      marker-refuses a r T is = refuses r (subst (TestOutcome t octets) is T)
+        where
+          by-parameters : (p : Parameter) → FirstOf (marker t (wrongBits octets 0) ∷ []) (parameterNumber p) → ⊥
+          by-parameters p (inl (due, nine)) = parameter-not-nine p nine
+          by-parameters p (inr (clear, zero)) = parameter-nonzero p zero
+
+          over : FirstOf (marker t (wrongBits octets 0) ∷ []) 9 → t < wrongBits marked 0
+          over (inl (due, nine)) = omega (arith, wrong-in-front marked)
+          over (inr (clear, zero)) = absurd (omega arith)
+
+          refuses : (r : MarkerRefusal) → TestOutcome t octets (tested.Refused r) → (r ≡ refusal.WrongBits (wrongBits marked 0)) × (t < wrongBits marked 0)
+          refuses (refusal.Parameters p) O = absurd (by-parameters p (decided (tested.Refused (refusal.Parameters p)) O))
+          refuses (refusal.WrongBits n) O = (
+            ap refusal.WrongBits (O .value (inr refl) ∙ wrong-in-front marked),
+            over (decided (tested.Refused (refusal.WrongBits n)) O),
+          )
+
+      pub stopped-at-marker : (a : Tested) (r : MarkerRefusal) → TestOutcome t octets a → a ≡ tested.Refused r
+          → ReceiveOutcome e i q s t flag marked frame (Refused (Marker r)) (replicate 8 0) 0 frame
+      stopped-at-marker a r T is =
+          record {
+            number = first-passes (receiveParameters e i q s t (length marked) (length frame)) (markerNumber r) (receive-numbers e i q s t (length marked) (length frame)) f
+                (inl (found .1, ap markerNumber (found .0)));
+            stage = found .0;
+            size = (refl, refl);
+            refused = λ n. (refl, refl, refl);
+            past = λ pass fits. absurd (omega (arith, found .1));
+          }
+        where
+          found : (r ≡ refusal.WrongBits (wrongBits marked 0)) × (t < wrongBits marked 0)
+          found = marker-refuses a r T is
+
+      -- past the marker, decode's own checks pass: its words decide
+      passes : FirstOf (decodeParameters e i q s (length (opened flag marked)) (length frame)) 0
+      passes =
+          decode-passes e i q s t (length marked) (length frame) (length (opened flag marked))
+          (omega (arith, randomised-length flag (drop 4 marked), length-drop 4 marked, four-at-least)) f
+
+      words-decide : (n : ℕ) → Order e i q s (opened flag marked) frame n → FirstOf (word (SomeLost e i q s (opened flag marked)) ∷ []) n
+      words-decide n =
+          first-goes-on (decodeParameters e i q s (length (opened flag marked)) (length frame)) n
+          (accepted-clear (decodeParameters e i q s (length (opened flag marked)) (length frame)) (decode-numbers e i q s (length (opened flag marked)) (length frame)) passes)
+
+      word-refuses : (d : Decoded) → FirstOf (word (SomeLost e i q s (opened flag marked)) ∷ []) (decodedNumber d) → StageRefuses e i q s t marked frame (wordStage d)
+      word-refuses decoded.Delivered z = tt
+      word-refuses (decoded.Refused (lost.Parameters p)) (inl (due, ten)) = absurd (parameter-not-ten p ten)
+      word-refuses (decoded.Refused (lost.Parameters p)) (inr (clear, zero)) = absurd (parameter-nonzero p zero)
+      word-refuses (decoded.Refused (lost.NoCodeword w)) z = (w, refl)
+
+      pub as-decoded : (a : Tested) (wrong : ℕ) → TestOutcome t octets a → a ≡ tested.Accepted wrong → (answer : Received) (counts : List ℕ) (total : ℕ) (after : List ℕ)
+          → DecodedPart e i q s flag part frame answer counts total after → ReceiveOutcome e i q s t flag marked frame answer counts total after
+      as-decoded a wrong T is answer counts total after P =
+          same-reception answer (wordStage (D .answered)) counts counts total total after (D .same) refl refl
+          (record {
+            number = subst (FirstOf order) (sym (stage-number (D .answered)))
+                (first-passes (receiveParameters e i q s t (length marked) (length frame)) (decodedNumber (D .answered)) (receive-numbers e i q s t (length marked) (length frame)) f
+                (inr ((λ over. omega (arith, marker-fits a wrong T is)), decide)));
+            stage = word-refuses (D .answered) decide;
+            size = D .outcome .size;
+            refused = λ n. D .outcome .refused (λ z. n (stage-number (D .answered) ∙ z));
+            past = λ pass fits. record { answered = D .answered; same = refl; outcome = D .outcome };
+          })
+        where
+          D : AsDecode e i q s (opened flag marked) frame answer counts total after
+          D = subst (λ (list : List ℕ). AsDecode e i q s (randomisedIf flag list) frame answer counts total after) part-is P
+
+          order : List Check
+          order = receiveOrder e i q s t (length marked) (length frame) (wrongBits marked 0) (SomeLost e i q s (opened flag marked))
+
+          decide : FirstOf (word (SomeLost e i q s (opened flag marked)) ∷ []) (decodedNumber (D .answered))
+          decide = words-decide (decodedNumber (D .answered)) (D .outcome .number)

@@ -1,0 +1,38 @@
+// Octets of a block: copied, and randomised if that is asked.
+ghost use mathlib.Core.Path.{_≡_};
+ghost use mathlib.Core.List.{_++_};
+ghost use Prim.Native.Nat.{_≤_};
+ghost use lib.ListN.{length, drop};
+ghost use Rattle.chain.specs.Outcome.{randomisedIf};
+ghost use Rattle.chain.specs.Working.{BlockOpened};
+
+// A list of octets over the front of another.
+pub(crate) fn copy_front(octets: &[u8], out: &mut [u8])
+    requires { ⌜ length (now octets) ≤ length (now out) ⌝ }
+    ensures { λ _. ⌜ now (out .exit) ≡ now (octets .entry) ++ drop (length (now (octets .entry))) (now (out .entry)) ⌝ }
+{
+    let n = octets.len();
+    for at in 0..n {
+        out[at] = octets[at];
+    }
+}
+
+// Of a block's length the randomiser refuses nothing.
+pub(crate) fn randomise_if(asked: bool, block: &mut [u8])
+    requires { ⌜ length (now block) ≤ 2040 ⌝ }
+    ensures { λ _. ⌜ now (block .exit) ≡ randomisedIf asked (now (block .entry)) ⌝ }
+{
+    if asked {
+        randomiser::randomise(block);
+    }
+}
+
+// A received block opened into the front of a list.
+pub(crate) fn open_block(randomised: bool, block: &[u8], opened: &mut [u8])
+    requires { ⌜ (length (now block) ≤ 2040) × (length (now block) ≤ length (now opened)) ⌝ }
+    ensures { λ _. ⌜ BlockOpened randomised (now (block .entry)) (now (opened .entry)) (now (opened .exit)) ⌝ }
+{
+    let n = block.len();
+    copy_front(block, opened);
+    randomise_if(randomised, &mut opened[..n]);
+}

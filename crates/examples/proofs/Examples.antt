@@ -1,0 +1,151 @@
+-- Every case of the table holds: (A) to (I) by computing; (J) and (K) because zeros are a codeword, the one within 16 symbols, and because
+-- encode and decode are settled.
+use mathlib.Core.Path.{_≡_, refl, sym, ap, _∙_, subst}
+use mathlib.Core.Logic.{inl, inr}
+use mathlib.Core.List.{List, [], _∷_}
+use Prim.Native.Nat.{ℕ, zero, suc, _+_, _*_, _≤_, _<_}
+use native.Mathlib.Omega.{arith}
+use lib.ListN.{length, getD, replicate}
+use Rattle.field.specs.Field.{_⊕_, _·_, shiftAndAdd, timesAlpha, whereSet}
+use Rattle.field.specs.Line.{toLine, toConventional}
+use Rattle.randomiser.specs.Sequence.{sequenceOctet, numberFrom, bitFrom, bitAfter}
+use Rattle.convolution.specs.Coder.{symbolsAt}
+use Rattle.refusals.specs.Calls.{encodeOrder, decodeParameters}
+use Rattle.refusals.specs.declared.Verdict.the-variants.{Accepted}
+use Rattle.refusals.specs.declared.WordRefusal.the-variants.{NoCodeword}
+use Rattle.refusals.proofs.Orders.{clear-accepted}
+use Rattle.codewords.specs.Words.{Codeword, Good, differing, withFill}
+use Rattle.codewords.proofs.Codewords.{good-unique, good-more-allowance}
+use Rattle.codewords.proofs.LineWords.{differing-front}
+use Rattle.words.proofs.Arrays.{zero-at}
+use Rattle.reed_solomon.specs.declared.Decoded.{Decoded}
+use Rattle.reed_solomon.specs.declared.Decoded.the-variants.{Delivered, Refused}
+use Rattle.reed_solomon.specs.Blocks.{sentFrom, wordOf, sum}
+use Rattle.reed_solomon.specs.Outcome.{Coded, EncodeOutcome, Delivery, Lost, DecodeOutcome}
+use Rattle.reed_solomon.proofs.Settled.{encode-settled}
+use Rattle.reed_solomon.proofs.DecodeSettled.{decode-settled}
+use Rattle.reed_solomon.proofs.Deliverable.{Passed, all-found, some-lost}
+use Rattle.examples.specs.Table.{Encodes, Decodes, AllHold, zeroBlock, changedBlock, cases}
+use Rattle.examples.proofs.ZeroWords.{zeroWord, zero-codeword, zero-good}
+
+-- ---- (J)
+
+-- at depth 1 the one word is word 0
+one-word : (P : ℕ → Type 0) → P 0 → (w : ℕ) → w < 1 → P w
+one-word P p zero h = p
+one-word P p (suc w) h = absurd (omega arith)
+
+zero-sent : sentFrom 1 zeroBlock 0 0 33 ≡ replicate 33 0
+unfolding sentFrom
+zero-sent = refl
+
+zero-coded : Coded 16 1 222 (0 ∷ []) zeroBlock
+zero-coded =
+    record {
+      information = refl;
+      words = one-word (λ w. Codeword 16 (wordOf 1 222 zeroBlock w))
+          (subst (λ (sent : List ℕ). Codeword 16 (withFill 222 sent)) (sym zero-sent) (zero-codeword 222 33 16 refl));
+    }
+
+module _ (before : List ℕ) (size : length before ≡ 33) where
+  zero-encoded : EncodeOutcome 16 1 222 (0 ∷ []) before Accepted zeroBlock
+  zero-encoded =
+      record {
+        number = clear-accepted (encodeOrder 16 1 222 1 (length before))
+            ((λ not. not (inr (inl refl))), ((λ not. not (inl refl)), ((λ over. omega arith), ((λ not. not refl), ((λ not. not size), tt)))));
+        size = sym size;
+        refused = λ not. absurd (not refl);
+        accepted = λ z. zero-coded;
+      }
+
+  zero-encodes : Encodes 16 1 222 (0 ∷ []) before Accepted zeroBlock
+  zero-encodes =
+      record {
+        permitted = zero-encoded;
+        only = λ other after P. encode-settled 16 1 222 (0 ∷ []) before other Accepted after zeroBlock P zero-encoded;
+      }
+
+-- ---- (K)
+
+abbrev changedWord : List ℕ
+changedWord = wordOf 1 222 changedBlock 0
+
+-- 16 of its symbols are not those of the zero word
+changed-by : differing (sentFrom 1 changedBlock 0 0 33) (replicate 33 0) ≡ 16
+unfolding differing sentFrom
+changed-by = refl
+
+apart : differing changedWord (zeroWord 222 33) ≡ 16
+apart = differing-front (replicate 222 0) (sentFrom 1 changedBlock 0 0 33) (replicate 33 0) ∙ changed-by
+
+zero-near : Good 16 222 16 changedWord (zeroWord 222 33)
+zero-near = zero-good 222 33 16 16 (sentFrom 1 changedBlock 0 0 33) refl (omega (arith, changed-by))
+
+zero-near-each : (w : ℕ) → w < 1 → Good 16 222 16 (wordOf 1 222 changedBlock w) (zeroWord 222 33)
+zero-near-each = one-word (λ w. Good 16 222 16 (wordOf 1 222 changedBlock w) (zeroWord 222 33)) zero-near
+
+-- no other codeword is within 16, and zeros are not within less
+changed-lost : (s : ℕ) → s < 16 → Lost 16 1 222 s changedBlock 0
+changed-lost s less codeword G =
+    let same : codeword ≡ zeroWord 222 33 =
+    good-unique 16 222 16 changedWord codeword (zeroWord 222 33) (omega arith) (omega arith) (good-more-allowance 16 222 s 16 changedWord codeword (omega arith) G) zero-near in
+    omega (arith, G .close, ap (differing changedWord) same, apart)
+
+counts-beyond : (w : ℕ) → 1 ≤ w → _≡_ {A = ℕ} (getD (16 ∷ replicate 7 0) w 0) 0
+counts-beyond zero h = absurd (omega arith)
+counts-beyond (suc w) h = zero-at 7 w
+
+changed-delivery : Delivery 16 1 222 16 changedBlock (0 ∷ []) (16 ∷ replicate 7 0) 16
+unfolding sum
+changed-delivery =
+    record {
+      codewords = λ w. zeroWord 222 33;
+      good = zero-near-each;
+      symbols = λ k w l h. one-word (λ v. (j : ℕ) → j < 1 → getD (0 ∷ []) (j * 1 + v) 0 ≡ getD (zeroWord 222 33) (222 + j) 0)
+          (one-word (λ j. getD (0 ∷ []) (j * 1 + 0) 0 ≡ getD (zeroWord 222 33) (222 + j) 0) refl) w h k l;
+      count = one-word (λ w. getD (16 ∷ replicate 7 0) w 0 ≡ differing (wordOf 1 222 changedBlock w) (zeroWord 222 33)) (sym apart);
+      beyond = counts-beyond;
+      summed = refl;
+    }
+
+module _ (before : List ℕ) (size : length before ≡ 1) where
+  passes : (s : ℕ) → s ≤ 16 → Passed 16 1 222 s changedBlock before
+  passes s h =
+      clear-accepted (decodeParameters 16 1 222 s 33 (length before))
+      ((λ not. not (inr (inl refl))), ((λ not. not (inl refl)), ((λ over. omega arith), ((λ over. omega arith), ((λ not. not refl), ((λ not. not size), tt))))))
+
+  -- what decode permits is the only thing that it permits
+  decodes : (s : ℕ) (answer : Decoded) (counts : List ℕ) (total : ℕ) (frame : List ℕ) → DecodeOutcome 16 1 222 s changedBlock before answer counts total frame
+      → Decodes 16 1 222 s changedBlock before answer counts total frame
+  decodes s answer counts total frame O =
+      record {
+        permitted = O;
+        only = λ other others sum after P. decode-settled 16 1 222 s changedBlock before other answer others counts sum total after frame P O;
+      }
+
+  changed-decodes : Decodes 16 1 222 16 changedBlock before Delivered (16 ∷ replicate 7 0) 16 (0 ∷ [])
+  changed-decodes = decodes 16 Delivered (16 ∷ replicate 7 0) 16 (0 ∷ [])
+      record {
+        number = all-found 16 1 222 16 changedBlock before (passes 16 (omega arith)) (λ lost. lost .2 (zeroWord 222 33) (zero-near-each (lost .0) (lost .1)));
+        word = λ z. absurd (omega arith);
+        size = (sym size, refl);
+        refused = λ not. absurd (not refl);
+        delivered = λ z. changed-delivery;
+      }
+
+  changed-refuses : (s : ℕ) → s < 16 → Decodes 16 1 222 s changedBlock before (Refused (NoCodeword 0)) (replicate 8 0) 0 before
+  changed-refuses s less = decodes s (Refused (NoCodeword 0)) (replicate 8 0) 0 before
+      record {
+        number = some-lost 16 1 222 s changedBlock before (passes s (omega arith)) (0, omega arith, changed-lost s less);
+        word = λ z. record { within = omega arith; lost = changed-lost s less; before = λ v h. absurd (omega arith) };
+        size = (refl, refl);
+        refused = λ not. (refl, refl, refl);
+        delivered = λ z. absurd (omega arith);
+      }
+
+-- ---- the table, (A) to (K)
+
+pub all-hold : AllHold cases
+unfolding toLine toConventional _·_ shiftAndAdd timesAlpha whereSet _⊕_ sequenceOctet numberFrom bitFrom bitAfter symbolsAt
+all-hold =
+    (refl, (refl, (refl, (refl, (refl, (refl, ((refl, refl), ((refl, refl), ((refl, refl), (zero-encodes, (changed-decodes, ((λ before size. changed-refuses before size _ (omega arith)), tt))))))))))))

@@ -1,0 +1,3 @@
+-- The zero codeword, and the proof of the table.
+pub mod ZeroWords
+pub mod Examples

@@ -1,0 +1,1 @@
+// The worked examples of document 01: a table and its one statement, no code.
