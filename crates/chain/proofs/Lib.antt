@@ -4,3 +4,4 @@ pub mod Transmissions
 pub mod Receptions
 pub mod Stages
 pub mod Settled
+pub mod Conditions

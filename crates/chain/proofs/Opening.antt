@@ -1,18 +1,17 @@
 -- The block in a marked block: randomised twice it is as it was, and the marker in front of it has no wrong bits.
 use mathlib.Core.Path.{_≡_, refl, sym, ap, _∙_}
 use mathlib.Core.Bool.{Bool, true, false}
-use mathlib.Core.Logic.{_≢_, inl, inr}
+use mathlib.Core.Logic.{inr}
 use mathlib.Core.List.{List, [], _∷_, _++_}
 use Prim.Native.Nat.{ℕ, zero, suc, _+_, _/_, _≤_, _<_}
 use native.Mathlib.Omega.{arith}
-use lib.Bits.{differ}
-use lib.ListN.{length, take, drop, getD}
+use lib.ListN.{length, take}
 use lib.Seq.{getD-take}
 use Rattle.refusals.specs.Order.{FirstOf}
 use Rattle.refusals.specs.Calls.{randomiseOrder}
 use Rattle.refusals.specs.Numbers.{verdictNumber}
 use Rattle.refusals.specs.declared.Verdict.{Verdict}
-use Rattle.refusals.specs.declared.Verdict.the-variants.{Accepted, Refused}
+use Rattle.refusals.specs.declared.Verdict.the-variants.{Accepted}
 use Rattle.refusals.proofs.Orders.{first-unique}
 use Rattle.marker.specs.Place.{marker, bitAt, wrongAmong, wrongBits}
 use Rattle.randomiser.specs.Sequence.{addedFrom, randomised}

@@ -1,42 +1,40 @@
 -- What `receive` answers: refused for a parameter, refused for the marker, or as decode answers for the block opened.
-use mathlib.Core.Path.{_≡_, refl, sym, ap, ap₂, _∙_, subst}
+use mathlib.Core.Path.{_≡_, refl, sym, ap, _∙_, subst}
 use mathlib.Core.Bool.{Bool}
-use mathlib.Core.Logic.{_≢_, _⊎_, inl, inr}
-use mathlib.Core.List.{List, [], _∷_, _++_, append-nil}
-use Prim.Native.Nat.{ℕ, _+_, _-_, _*_, _≤_, _<_}
+use mathlib.Core.Logic.{inl, inr}
+use mathlib.Core.List.{List, [], _∷_, _++_}
+use Prim.Native.Nat.{ℕ, _+_, _-_, _≤_, _<_}
 use native.Mathlib.Nat.{le-of-eq}
 use native.Mathlib.Omega.{arith}
-use lib.ListN.{length, take, drop, replicate, length-append, length-drop, drop-of-length-le}
+use lib.ListN.{length, take, drop, replicate, length-append, length-drop}
 use lib.Seq.{take-all, take-at, length-take-le}
 use Rattle.refusals.specs.Order.{Check, FirstOf}
-use Rattle.refusals.specs.Sizes.{frameLength, blockLength, markedLength}
-use Rattle.refusals.specs.Numbers.{verdictNumber, parameterNumber, markerNumber, wordNumber}
-use Rattle.refusals.specs.Calls.{marker, word, markerParameters, markerOrder, decodeParameters, decodeOrder, receiveParameters, receiveOrder}
+use Rattle.refusals.specs.Sizes.{frameLength, markedLength}
+use Rattle.refusals.specs.Numbers.{verdictNumber, parameterNumber, markerNumber}
+use Rattle.refusals.specs.Calls.{marker, word, markerParameters, decodeParameters, receiveParameters, receiveOrder}
 use Rattle.refusals.specs.declared.Parameter.{Parameter}
 use Rattle.refusals.specs.declared.Verdict.{Verdict}
 use Rattle.refusals.specs.declared.Verdict.the-variants as verdict
 use Rattle.refusals.specs.declared.MarkerRefusal.{MarkerRefusal}
 use Rattle.refusals.specs.declared.MarkerRefusal.the-variants as refusal
-use Rattle.refusals.specs.declared.WordRefusal.{WordRefusal}
 use Rattle.refusals.specs.declared.WordRefusal.the-variants as lost
-use Rattle.refusals.proofs.Orders.{Begins, Clear, Numbered, accepted-clear, clear-accepted, not-different, first-unique, first-passes, first-accepts}
+use Rattle.refusals.proofs.Orders.{Begins, Clear, Numbered, accepted-clear, clear-accepted, not-different, first-unique, first-passes}
 use Rattle.refusals.proofs.Verdicts.{parameter-nonzero, parameter-not-nine, parameter-not-ten, same-verdict, passed, stopped}
 use Rattle.refusals.proofs.Legal.{LegalWords, legal-words}
 use Rattle.marker.specs.Place.{wrongBits}
-use Rattle.marker.specs.Numbers.{testedNumber, testedValue}
+use Rattle.marker.specs.Numbers.{testedNumber}
 use Rattle.marker.specs.Outcome.{TestOutcome}
 use Rattle.marker.specs.declared.Tested.{Tested}
 use Rattle.marker.specs.declared.Tested.the-variants as tested
 use Rattle.reed_solomon.specs.declared.Decoded.{Decoded}
 use Rattle.reed_solomon.specs.declared.Decoded.the-variants as decoded
-use Rattle.reed_solomon.specs.Outcome.{Lost, DecodeOutcome, decodedNumber}
+use Rattle.reed_solomon.specs.Outcome.{DecodeOutcome, decodedNumber}
 use Rattle.reed_solomon.proofs.Deliverable.{SomeLost, Order}
 use Rattle.reed_solomon.proofs.Deliveries.{decode-numbers}
-use Rattle.chain.specs.declared.Stage.the-variants.{Parameters, Marker, Word}
+use Rattle.chain.specs.declared.Stage.the-variants.{Parameters, Marker}
 use Rattle.chain.specs.declared.Received.{Received}
 use Rattle.chain.specs.declared.Received.the-variants.{Delivered, Refused}
 use Rattle.chain.specs.Outcome.{randomisedIf, opened, receivedNumber, wordStage, StageRefuses, AsDecode, ReceiveOutcome}
-use Rattle.chain.specs.Working.{BlockOpened, DecodedPart}
 use Rattle.chain.proofs.Opening.{randomised-length, wrong-in-front}
 use Rattle.chain.proofs.Transmissions.{block-most}
 
@@ -95,12 +93,13 @@ pub copied-size : (block before copied : List ℕ) → copied ≡ block ++ drop 
 copied-size block before copied copy = ap length (copied-front block before copied copy)
 
 pub block-opened : (flag : Bool) (block before copied put : List ℕ) → length block ≤ length before → copied ≡ block ++ drop (length block) before
-    → put ≡ randomisedIf flag (take (length block) copied) → BlockOpened flag block before (put ++ drop (length block) copied)
-block-opened flag block before copied put fits copy is =
-    record {
-      size = length-append put (drop (length block) copied) ∙ omega (arith, put-size, length-drop (length block) copied, ap length copy, length-append block (drop (length block) before), length-drop (length block) before);
-      front = take-at put (drop (length block) copied) (length block) put-size ∙ put-is;
-    }
+    → put ≡ randomisedIf flag (take (length block) copied)
+    → (length (put ++ drop (length block) copied) ≡ length before) × (take (length block) (put ++ drop (length block) copied) ≡ randomisedIf flag block)
+block-opened flag block before copied put fits copy is = (
+  length-append put (drop (length block) copied)
+      ∙ omega (arith, put-size, length-drop (length block) copied, ap length copy, length-append block (drop (length block) before), length-drop (length block) before),
+  take-at put (drop (length block) copied) (length block) put-size ∙ put-is,
+)
   where
     put-is : put ≡ randomisedIf flag block
     put-is = is ∙ ap (randomisedIf flag) (copied-front block before copied copy)
@@ -108,12 +107,12 @@ block-opened flag block before copied put fits copy is =
     put-size : length put ≡ length block
     put-size = ap length put-is ∙ randomised-length flag block
 
-pub opened-size : (flag : Bool) (block before after : List ℕ) → BlockOpened flag block before after → length block ≡ length (take (length block) after)
-opened-size flag block before after B = sym (ap length (B .front) ∙ randomised-length flag block)
+pub opened-size : (flag : Bool) (block after : List ℕ) → take (length block) after ≡ randomisedIf flag block → length block ≡ length (take (length block) after)
+opened-size flag block after front = sym (ap length front ∙ randomised-length flag block)
 
 pub part-decoded : (e i q s : ℕ) (flag : Bool) (block frame : List ℕ) (front : List ℕ) (answer : Received) (given : Decoded) (counts : List ℕ) (total : ℕ) (after : List ℕ)
     → front ≡ randomisedIf flag block → DecodeOutcome e i q s front frame given counts total after → answer ≡ wordStage given
-    → DecodedPart e i q s flag block frame answer counts total after
+    → AsDecode e i q s (randomisedIf flag block) frame answer counts total after
 part-decoded e i q s flag block frame front answer given counts total after is O same =
     record { answered = given; same = same; outcome = subst (λ (list : List ℕ). DecodeOutcome e i q s list frame given counts total after) is O }
 
@@ -233,7 +232,7 @@ module _ (e i q s t : ℕ) (flag : Bool) (marked frame : List ℕ) where
       word-refuses (decoded.Refused (lost.NoCodeword w)) z = (w, refl)
 
       pub as-decoded : (a : Tested) (wrong : ℕ) → TestOutcome t octets a → a ≡ tested.Accepted wrong → (answer : Received) (counts : List ℕ) (total : ℕ) (after : List ℕ)
-          → DecodedPart e i q s flag part frame answer counts total after → ReceiveOutcome e i q s t flag marked frame answer counts total after
+          → AsDecode e i q s (randomisedIf flag part) frame answer counts total after → ReceiveOutcome e i q s t flag marked frame answer counts total after
       as-decoded a wrong T is answer counts total after P =
           same-reception answer (wordStage (D .answered)) counts counts total total after (D .same) refl refl
           (record {

@@ -8,16 +8,15 @@ use native.Mathlib.Omega.{arith}
 use native.Mathlib.Decide.{ℕ-discrete}
 use lib.ListN.{length, replicate, length-append}
 use Rattle.refusals.specs.Order.{FirstOf}
-use Rattle.refusals.specs.Numbers.{parameterNumber, verdictNumber, markerNumber, wordNumber}
+use Rattle.refusals.specs.Numbers.{verdictNumber, markerNumber, wordNumber}
 use Rattle.refusals.specs.Calls.{transmitOrder, receiveOrder}
 use Rattle.refusals.specs.declared.Parameter.{Parameter}
 use Rattle.refusals.specs.declared.Verdict.{Verdict}
 use Rattle.refusals.specs.declared.MarkerRefusal.{MarkerRefusal}
 use Rattle.refusals.proofs.Orders.{first-unique}
-use Rattle.refusals.proofs.Verdicts.{parameter-nonzero, parameter-not-nine, parameter-not-ten}
+use Rattle.refusals.proofs.Verdicts.{parameter-not-nine, parameter-not-ten}
 use Rattle.refusals.proofs.Settled.{parameter-known, transmit-parameters-settled}
 use Rattle.marker.specs.Place.{marker, wrongBits}
-use Rattle.reed_solomon.specs.declared.Decoded.{Decoded}
 use Rattle.reed_solomon.proofs.CodedBlocks.{EncodeLegal, encode-legal}
 use Rattle.reed_solomon.proofs.Settled.{coded-unique}
 use Rattle.reed_solomon.proofs.Deliverable.{SomeLost}
@@ -123,7 +122,7 @@ module _ (e i q s t : ℕ) (flag : Bool) (marked before : List ℕ) where
         elim (ℕ-discrete (receivedNumber a) 0) [
           | yes z ↦ both-past (inl z) (inl (sym numbers ∙ z))
           | no zero ↦ elim (ℕ-discrete (receivedNumber a) 10) [
-              | yes z ↦ both-past (inr z) (inr (sym numbers ∙ z))
-              | no ten ↦ both-refused zero ten
-            ]
+            | yes z ↦ both-past (inr z) (inr (sym numbers ∙ z))
+            | no ten ↦ both-refused zero ten
+          ]
         ]

@@ -10,7 +10,6 @@ use Rattle.refusals.specs.Order.{Check, FirstOf, OneOf}
 use Rattle.refusals.specs.Numbers.{parameterNumber, markerNumber, markerValue, wordNumber, wordValue}
 use Rattle.refusals.specs.Calls.{receiveParameters, receiveOrder}
 use Rattle.refusals.specs.declared.WordRefusal.{WordRefusal}
-use Rattle.refusals.specs.declared.WordRefusal.the-variants.{NoCodeword}
 use Rattle.refusals.proofs.Orders.{Begins}
 use Rattle.refusals.proofs.Verdicts.{parameter-nonzero}
 use Rattle.marker.specs.Place.{wrongBits}
@@ -21,7 +20,7 @@ use Rattle.reed_solomon.proofs.Deliverable.{SomeLost}
 use Rattle.chain.specs.declared.Stage.the-variants.{Parameters, Marker, Word}
 use Rattle.chain.specs.declared.Received.{Received}
 use Rattle.chain.specs.declared.Received.the-variants.{Delivered, Refused}
-use Rattle.chain.specs.Outcome.{opened, receivedNumber, wordStage, StageRefuses, AsDecode, ReceiveOutcome}
+use Rattle.chain.specs.Outcome.{opened, receivedNumber, wordStage, AsDecode, ReceiveOutcome}
 
 -- No check of the list has the number n.
 abbrev pub Without : ℕ → List Check → Type 0

@@ -1,9 +1,8 @@
 -- What `transmit` answers: refused for a parameter, or a marked block whose part after the marker is coded, and randomised if asked.
-use mathlib.Core.Path.{_≡_, refl, sym, ap, ap₂, _∙_, subst}
+use mathlib.Core.Path.{_≡_, refl, sym, ap, ap₂, _∙_}
 use mathlib.Core.Bool.{Bool}
-use mathlib.Core.Logic.{_≢_, inl, inr}
-use mathlib.Core.List.{List, [], _∷_, _++_, append-nil}
-use Prim.Native.Nat.{ℕ, _+_, _-_, _*_, _≤_, _<_}
+use mathlib.Core.List.{List, _++_, append-nil}
+use Prim.Native.Nat.{ℕ, _+_, _-_, _≤_}
 use native.Mathlib.Nat.{mul-le-mul, le-of-eq}
 use native.Mathlib.Omega.{arith}
 use lib.ListN.{length, take, drop, length-append, length-drop, drop-of-length-le}
@@ -11,19 +10,18 @@ use lib.Seq.{take-all, drop-at, length-take-le}
 use borrow.Rule.Slice.PartMut.{midOf, putMid, same-len-mid}
 use Rattle.refusals.specs.Order.{FirstOf}
 use Rattle.refusals.specs.Sizes.{frameLength, blockLength, markedLength}
-use Rattle.refusals.specs.Numbers.{verdictNumber, parameterNumber}
+use Rattle.refusals.specs.Numbers.{verdictNumber}
 use Rattle.refusals.specs.Calls.{encodeOrder, transmitOrder}
 use Rattle.refusals.specs.declared.Parameter.{Parameter}
 use Rattle.refusals.specs.declared.Verdict.{Verdict}
 use Rattle.refusals.specs.declared.Verdict.the-variants.{Accepted, Refused}
-use Rattle.refusals.proofs.Orders.{Clear, Numbered, accepted-clear, clear-accepted, not-different, first-unique}
+use Rattle.refusals.proofs.Orders.{Clear, accepted-clear, clear-accepted, not-different, first-unique}
 use Rattle.refusals.proofs.Verdicts.{parameter-nonzero, same-verdict, passed}
 use Rattle.refusals.proofs.Legal.{LegalWords, legal-words}
 use Rattle.marker.specs.Place.{marker}
-use Rattle.reed_solomon.specs.Outcome.{Coded, EncodeOutcome}
+use Rattle.reed_solomon.specs.Outcome.{EncodeOutcome}
 use Rattle.reed_solomon.proofs.CodedBlocks.{EncodeLegal, encode-legal}
-use Rattle.chain.specs.Outcome.{randomisedIf, Transmitted, TransmitOutcome}
-use Rattle.chain.specs.Working.{CodedIf, BlockPut}
+use Rattle.chain.specs.Outcome.{randomisedIf, TransmitOutcome}
 use Rattle.chain.proofs.Opening.{randomised-length}
 
 -- ---- lengths
@@ -60,33 +58,13 @@ block-passes e i q frame marked block size f =
     let legal : TransmitLegal e i q frame marked = transmit-legal e i q frame marked f in
     clear-accepted (encodeOrder e i q frame block) (clear .0, (clear .1 .0, (clear .1 .1 .0, (clear .1 .1 .1 .0, ((λ n. n (omega (arith, legal .output))), tt)))))
 
--- ---- the block after the marker
+-- ---- a part lent from octet 4 on, and back in its place
 
-module _ (e i q : ℕ) (flag : Bool) (frame before : List ℕ) (v : Verdict) (block : List ℕ) (O : EncodeOutcome e i q frame before v block) where
-  pub put-refuses : (p : Parameter) → v ≡ Refused p → BlockPut e i q flag frame before (Refused p) block
-  put-refuses p is =
-      record {
-        number = same-verdict (encodeOrder e i q (length frame) (length before)) v (Refused p) is (O .number);
-        size = O .size;
-        accepted = λ z. absurd (parameter-nonzero p z);
-      }
+tail-back : (list put : List ℕ) → put ++ drop (length list - 4) (drop 4 list) ≡ put
+tail-back list put = ap {B = List ℕ} (λ (rest : List ℕ). put ++ rest) (drop-of-length-le (drop 4 list) (le-of-eq (length-drop 4 list))) ∙ append-nil put
 
-  module _ (is : v ≡ Accepted) where
-    accepted : FirstOf (encodeOrder e i q (length frame) (length before)) 0
-    accepted = passed (encodeOrder e i q (length frame) (length before)) v is (O .number)
-
-    pub coded-within : length block ≤ 2040
-    coded-within =
-        let legal : EncodeLegal e i q (length frame) (length before) = encode-legal e i q (length frame) (length before) accepted in
-        omega (arith, O .size, legal .output, block-most e i q (legal .words))
-
-    pub put-accepts : (after : List ℕ) → after ≡ randomisedIf flag block → BlockPut e i q flag frame before Accepted after
-    put-accepts after sent =
-        record {
-          number = accepted;
-          size = ap length sent ∙ randomised-length flag block ∙ O .size;
-          accepted = λ z. record { block = block; coded = O .accepted (ap verdictNumber is); sent = sent };
-        }
+put-back : (list put : List ℕ) → 4 ≤ length list → drop 4 (putMid 4 (length list - 4) list put) ≡ put
+put-back list put fits = drop-at (take 4 list) (put ++ drop (length list - 4) (drop 4 list)) 4 (length-take-le 4 list fits) ∙ tail-back list put
 
 -- ---- transmit
 
@@ -117,33 +95,54 @@ module _ (e i q : ℕ) (flag : Bool) (frame before : List ℕ) (v : Verdict) (fi
     part-size : length before ≡ length part + 4
     part-size = omega (arith, ap length part-is, length-drop 4 before, marker-fits)
 
-    -- Transmit's checks are encode's: encode refuses nothing that came so far.
-    pub never-refused : (w : Verdict) (put : List ℕ) (p : Parameter) → BlockPut e i q flag frame part w put → w ≡ Refused p → ⊥
-    never-refused w put p B refuses =
-        parameter-nonzero p (ap verdictNumber (sym refuses)
-        ∙ first-unique (encodeOrder e i q (length frame) (length part)) (verdictNumber w) 0 (B .number) (block-passes e i q (length frame) (length before) (length part) part-size passes))
+    accepted : FirstOf (encodeOrder e i q (length frame) (length part)) 0
+    accepted = block-passes e i q (length frame) (length before) (length part) part-size passes
 
-    pub marker-room : (w : Verdict) (put : List ℕ) → BlockPut e i q flag frame part w put → 4 ≤ length (putMid 4 (length before - 4) before put)
-    marker-room w put B = omega (arith, same-len-mid 4 (length before - 4) before put (B .size), marker-fits)
+    module _ (w : Verdict) (block : List ℕ) (C : EncodeOutcome e i q frame part w block) where
+      -- Transmit's checks are encode's: encode refuses nothing that came so far.
+      pub never-refused : (p : Parameter) → w ≡ Refused p → ⊥
+      never-refused p refuses =
+          parameter-nonzero p
+          (ap verdictNumber (sym refuses) ∙ first-unique (encodeOrder e i q (length frame) (length part)) (verdictNumber w) 0 (C .number) accepted)
 
-    -- The part is back in its place, and only the marker's octets stand before it.
-    back : (put : List ℕ) → drop 4 (putMid 4 (length before - 4) before put) ≡ put
-    back put =
-        drop-at (take 4 before) (put ++ drop (length before - 4) (drop 4 before)) 4 (length-take-le 4 before marker-fits)
-        ∙ ap {B = List ℕ} (λ (rest : List ℕ). put ++ rest) (drop-of-length-le (drop 4 before) (le-of-eq (length-drop 4 before))) ∙ append-nil put
+      -- the marked block once the coded block is back in it
+      abbrev coded : List ℕ
+      coded = putMid 4 (length before - 4) before block
 
-    pub transmit-accepts : (w : Verdict) (put after : List ℕ) → BlockPut e i q flag frame part w put → w ≡ Accepted
-        → after ≡ marker ++ drop 4 (putMid 4 (length before - 4) before put) → TransmitOutcome e i q flag frame before Accepted after
-    transmit-accepts w put after B accepts front =
-        record {
-          number = passes;
-          size = ap length whole ∙ omega (arith, length-append marker put, B .size, part-size);
-          refused = λ n. absurd (n refl);
-          accepted = λ z. record { block = C .block; coded = C .coded; sent = whole ∙ ap {B = List ℕ} (λ (rest : List ℕ). marker ++ rest) (C .sent) };
-        }
-      where
-        whole : after ≡ marker ++ put
-        whole = front ∙ ap {B = List ℕ} (λ (rest : List ℕ). marker ++ rest) (back put)
+      pub marker-room : 4 ≤ length coded
+      marker-room = omega (arith, same-len-mid 4 (length before - 4) before block (C .size), marker-fits)
 
-        C : CodedIf e i q flag frame put
-        C = B .accepted (ap verdictNumber accepts)
+      module _ (marked : List ℕ) (copied : marked ≡ marker ++ drop 4 coded) where
+        marked-is : marked ≡ marker ++ block
+        marked-is = copied ∙ ap {B = List ℕ} (λ (rest : List ℕ). marker ++ rest) (put-back before block marker-fits)
+
+        marked-size : length marked ≡ length block + 4
+        marked-size = omega (arith, ap length marked-is, length-append marker block)
+
+        pub block-fits : 4 ≤ length marked
+        block-fits = omega (arith, marked-size)
+
+        lent-is : midOf 4 (length marked - 4) marked ≡ block
+        lent-is = take-all (length marked - 4) (drop 4 marked) (le-of-eq (length-drop 4 marked)) ∙ ap (drop 4) marked-is
+
+        pub lent-within : length (midOf 4 (length marked - 4) marked) ≤ 2040
+        lent-within =
+            let legal : EncodeLegal e i q (length frame) (length part) = encode-legal e i q (length frame) (length part) accepted in
+            omega (arith, ap length lent-is, C .size, legal .output, block-most e i q (legal .words))
+
+        pub transmit-accepts : w ≡ Accepted → (sent : List ℕ) → sent ≡ randomisedIf flag (midOf 4 (length marked - 4) marked)
+            → TransmitOutcome e i q flag frame before Accepted (putMid 4 (length marked - 4) marked sent)
+        transmit-accepts yields sent is =
+            record {
+              number = passes;
+              size = ap length whole ∙ omega (arith, length-append marker (randomisedIf flag block), randomised-length flag block, C .size, part-size);
+              refused = λ n. absurd (n refl);
+              accepted = λ z. record { block = block; coded = C .accepted (ap verdictNumber yields); sent = whole };
+            }
+          where
+            front : take 4 marked ≡ marker
+            front = ap (take 4) marked-is
+
+            whole : putMid 4 (length marked - 4) marked sent ≡ marker ++ randomisedIf flag block
+            whole =
+                ap₂ {C = List ℕ} (λ (x y : List ℕ). x ++ y) front (tail-back marked sent ∙ is ∙ ap (randomisedIf flag) lent-is)

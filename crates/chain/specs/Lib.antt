@@ -1,3 +1,2 @@
--- What transmit and receive promise, and what they do on the way.
+-- What transmit and receive promise.
 pub mod Outcome
-pub mod Working

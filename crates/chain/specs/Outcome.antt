@@ -35,6 +35,7 @@ pub record Transmitted (e i q : ℕ) (flag : Bool) (frame marked : List ℕ) : T
   pub coded : Coded e i q frame block
   pub sent : marked ≡ marker ++ randomisedIf flag block
 
+-- Transmit checks in its order. After a refusal the marked block is as it was.
 pub record TransmitOutcome (e i q : ℕ) (flag : Bool) (frame before : List ℕ) (answer : Verdict) (after : List ℕ) : Type 0 where
   pub number : FirstOf (transmitOrder e i q (length frame) (length before)) (verdictNumber answer)
   pub size : length after ≡ length before
@@ -66,7 +67,7 @@ StageRefuses e i q s t marked before (Refused (Parameters p)) = FirstOf (receive
 StageRefuses e i q s t marked before (Refused (Marker r)) = r ≡ WrongBits (wrongBits marked 0)
 StageRefuses e i q s t marked before (Refused (Word r)) = (w : ℕ) × (r ≡ NoCodeword w)
 
--- Some outcome of decode, for the block opened, is receive's own: the answer, the report and the frame.
+-- As decode: receive's answer, report and frame are those of an outcome that decode's contract permits for the block.
 pub record AsDecode (e i q s : ℕ) (block before : List ℕ) (answer : Received) (counts : List ℕ) (total : ℕ) (after : List ℕ) : Type 0 where
   pub answered : Decoded
   pub same : answer ≡ wordStage answered

@@ -2,9 +2,8 @@
 ghost use mathlib.Core.Path.{_≡_};
 ghost use mathlib.Core.List.{_++_};
 ghost use Prim.Native.Nat.{_≤_};
-ghost use lib.ListN.{length, drop};
+ghost use lib.ListN.{length, take, drop};
 ghost use Rattle.chain.specs.Outcome.{randomisedIf};
-ghost use Rattle.chain.specs.Working.{BlockOpened};
 
 // A list of octets over the front of another.
 pub(crate) fn copy_front(octets: &[u8], out: &mut [u8])
@@ -30,7 +29,7 @@ pub(crate) fn randomise_if(asked: bool, block: &mut [u8])
 // A received block opened into the front of a list.
 pub(crate) fn open_block(randomised: bool, block: &[u8], opened: &mut [u8])
     requires { ⌜ (length (now block) ≤ 2040) × (length (now block) ≤ length (now opened)) ⌝ }
-    ensures { λ _. ⌜ BlockOpened randomised (now (block .entry)) (now (opened .entry)) (now (opened .exit)) ⌝ }
+    ensures { λ _. ⌜ (length (now (opened .exit)) ≡ length (now (opened .entry))) × (take (length (now (block .entry))) (now (opened .exit)) ≡ randomisedIf randomised (now (block .entry))) ⌝ }
 {
     let n = block.len();
     copy_front(block, opened);

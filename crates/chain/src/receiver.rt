@@ -3,8 +3,7 @@ ghost use mathlib.Core.Path.{_≡_};
 ghost use Prim.Native.Nat.{_≤_};
 ghost use lib.ListN.{length, replicate};
 ghost use Rattle.chain.specs.declared.Received.the-variants as received;
-ghost use Rattle.chain.specs.Outcome.{wordStage, ReceiveOutcome};
-ghost use Rattle.chain.specs.Working.{DecodedPart};
+ghost use Rattle.chain.specs.Outcome.{randomisedIf, wordStage, AsDecode, ReceiveOutcome};
 use crate::Received;
 use crate::Reception;
 use crate::Stage;
@@ -45,7 +44,7 @@ fn decode_part(
     frame: &mut [u8],
 ) -> Reception
     requires { ⌜ length (now block) ≤ 2040 ⌝ }
-    ensures { λ r. ⌜ DecodedPart e depth fill s randomised (now (block .entry)) (now (frame .entry)) (r .answer) (r .counts) (r .total) (now (frame .exit)) ⌝ }
+    ensures { λ r. ⌜ AsDecode e depth fill s (randomisedIf randomised (now (block .entry))) (now (frame .entry)) (r .answer) (r .counts) (r .total) (now (frame .exit)) ⌝ }
 {
     let n = block.len();
     let mut opened = [0u8; 2040];
@@ -72,8 +71,15 @@ pub fn receive(
 ) -> Reception
     ensures { λ r. ⌜ ReceiveOutcome e depth fill s tolerance randomised (now (marked .entry)) (now (frame .entry)) (r .answer) (r .counts) (r .total) (now (frame .exit)) ⌝ }
 {
-    let verdict =
-        refusals::receive_parameters(e, depth, fill, s, tolerance, marked.len(), frame.len());
+    let verdict = refusals::receive_parameters(
+        e,
+        depth,
+        fill,
+        s,
+        tolerance,
+        marked.len(),
+        frame.len(),
+    );
     if let Verdict::Refused(p) = verdict {
         return refused(Stage::Parameters(p));
     }

@@ -1,38 +1,26 @@
-use mathlib.Core.Path.{_≡_, refl, sym, ap, ap₂, _∙_, subst}
-use mathlib.Core.Logic.{⊎-elim}
-use Prim.Native.Nat.{ℕ, _≤_, _-_, _<_, _+_}
+-- `open_block`: the block is copied to the front, and the front comes back randomised if that is asked.
+use mathlib.Core.Path.{sym}
 use native.Mathlib.Omega.{arith}
-use lib.ListN.{length, getD, drop, take}
 use Rattle.chain.proofs.Receptions.{copied-size, block-opened}
 use borrow.Author.Needs.{needs}
 use Rattle.chain.proofs.octets.open_block.Statement.{statement}
 use Rattle.chain.proofs.octets.open_block.Tie as tie
-use Rattle.chain.proofs.octets.open_block.Reads as reads
-use Rattle.chain.proofs.octets.open_block.Lts as lts
-use Rattle.chain.proofs.octets.copy_front.Reads as copy-front-reads
-use Rattle.chain.proofs.octets.randomise_if.Reads as randomise-if-reads
 
--- src/octets.rt:36:5
 copy-front-requires : tie.Need-copy-front-requires
 copy-front-requires c κs = search needs
 
--- src/octets.rt:37:30
 slice-relend-prefix-randomise-if : tie.Need-slice-relend-prefix-randomise-if
 slice-relend-prefix-randomise-if c = search needs
 
--- src/octets.rt:37:30
 slice-aggregate-randomise-if : tie.Need-slice-aggregate-randomise-if
 slice-aggregate-randomise-if c = sym (copied-size (c .before .before .before .before .before .before .before .args .block .now) (c .before .before .before .before .before .before .before .args .opened .now) _ (c .before .before .before .copy-front .ensures))
 
--- src/octets.rt:37:5
 randomise-if-requires : tie.Need-randomise-if-requires
 randomise-if-requires c κs = omega (arith, c .before .before .before .before .before .before .before .pre, copied-size (c .before .before .before .before .before .before .before .args .block .now) (c .before .before .before .before .before .before .before .args .opened .now) _ (c .before .before .before .copy-front .ensures))
 
--- src/octets.rt:31:1
 same-length : tie.Need-same-length
 same-length c = search needs
 
--- src/octets.rt:31:1
 returns : tie.Need-returns
 returns c = block-opened (c .before .before .before .before .before .before .before .before .before .before .args .randomised) (c .before .before .before .before .before .before .before .before .before .before .args .block .now) (c .before .before .before .before .before .before .before .before .before .before .args .opened .now) _ _ (c .before .before .before .before .before .before .before .before .before .before .pre .1) (c .before .before .before .before .before .before .copy-front .ensures) (c .before .before .randomise-if .ensures)
 

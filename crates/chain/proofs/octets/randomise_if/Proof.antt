@@ -4,9 +4,6 @@ use mathlib.Core.Path.{_∙_}
 use borrow.Author.Needs.{needs}
 use Rattle.chain.proofs.octets.randomise_if.Statement.{statement}
 use Rattle.chain.proofs.octets.randomise_if.Tie as tie
-use Rattle.chain.proofs.octets.randomise_if.Reads as reads
-use Rattle.chain.proofs.octets.randomise_if.Lts as lts
-use Rattle.randomiser.proofs.randomise.Reads as randomise-reads
 
 randomise-requires : tie.Need-randomise-requires
 randomise-requires c κs = search needs

@@ -1,109 +1,84 @@
-use mathlib.Core.Path.{_≡_, refl, sym, ap, ap₂, _∙_, subst}
-use mathlib.Core.Logic.{⊎-elim}
-use Prim.Native.Nat.{ℕ, _≤_, _-_, _<_, _+_}
-use native.Mathlib.Omega.{arith}
-use lib.ListN.{length, getD, drop, take}
+-- `receive`: each return cites the law for its stage, with what the checks, the marker test and the decoding ensure.
+use Prim.Native.Nat.{_≤_}
+use lib.ListN.{length}
 use Rattle.chain.proofs.Receptions.{same-reception, stopped-at-parameters, four-at-least, part-within, stopped-at-marker, as-decoded}
 use borrow.Author.Needs.{needs}
 use Rattle.chain.proofs.receiver.receive.Statement.{statement}
 use Rattle.chain.proofs.receiver.receive.Tie as tie
-use Rattle.chain.proofs.receiver.receive.Reads as reads
-use Rattle.chain.proofs.receiver.receive.Lts as lts
-use Rattle.chain.proofs.receiver.decode_part.Reads as decode-part-reads
-use Rattle.chain.proofs.receiver.refused.Reads as refused-reads
-use Rattle.marker.proofs.test.Reads as test-reads
-use Rattle.refusals.proofs.receive_parameters.Reads as receive-parameters-reads
 
--- src/receiver.rt:77:9
 receive-parameters-requires : tie.Need-receive-parameters-requires
 receive-parameters-requires c κs = search needs
 
--- src/receiver.rt:79:29
 enum-known-verdict : tie.Need-enum-known-verdict
 enum-known-verdict c = search needs
 
--- src/receiver.rt:80:9
 refused-requires : tie.Need-refused-requires
 refused-requires c κs = search needs
 
--- src/receiver.rt:80:9
 returns : tie.Need-returns
 returns c =
-    let a = c .before .before .before .before .before .before .before .args in 
+    let a = c .before .before .before .before .before .before .before .args in
     same-reception (a .e) (a .depth) (a .fill) (a .s) (a .tolerance) (a .randomised) (a .marked .now) (a .frame .now) _ _ _ _ _ _ _ (c .refused .ensures .0) (c .refused .ensures .2) (c .refused .ensures .1)
     (stopped-at-parameters (a .e) (a .depth) (a .fill) (a .s) (a .tolerance) (a .randomised) (a .marked .now) (a .frame .now) (c .before .before .before .before .receive-parameters .result) (c .before .before .before .before .receive-parameters .ensures) _ (c .before .before .verdict .given .1))
 
 enum-told : tie.Need-enum-told
 enum-told c = search needs
 
--- src/receiver.rt:82:42
 sub-test : tie.Need-sub-test
 sub-test c = search needs
 
--- src/receiver.rt:82:42
 part-test-start : tie.Need-part-test-start
 part-test-start c = search needs
 
--- src/receiver.rt:82:42
 part-test-end : tie.Need-part-test-end
 part-test-end c =
-    let a = c .before .before .before .before .before .args in 
+    let a = c .before .before .before .before .before .args in
     let fits : 4 ≤ length (a .marked .now) = four-at-least (a .e) (a .depth) (a .fill) (a .s) (a .tolerance) (a .randomised) (a .marked .now) (a .frame .now) (c .before .before .receive-parameters .result) (c .before .before .receive-parameters .ensures) (c .enum-told .given .1) in
     search needs
 
--- src/receiver.rt:82:9
 test-requires : tie.Need-test-requires
 test-requires c κs = search needs
 
--- src/receiver.rt:83:28
 enum-known-tested : tie.Need-enum-known-tested
 enum-known-tested c = search needs
 
--- src/receiver.rt:84:9
 refused-requires-2 : tie.Need-refused-requires-2
 refused-requires-2 c κs = search needs
 
--- src/receiver.rt:84:9
 returns-2 : tie.Need-returns-2
 returns-2 c =
-    let a = c .before .before .before .before .before .before .before .before .before .before .before .args in 
+    let a = c .before .before .before .before .before .before .before .before .before .before .before .args in
     same-reception (a .e) (a .depth) (a .fill) (a .s) (a .tolerance) (a .randomised) (a .marked .now) (a .frame .now) _ _ _ _ _ _ _ (c .refused2 .ensures .0) (c .refused2 .ensures .2) (c .refused2 .ensures .1)
     (stopped-at-marker (a .e) (a .depth) (a .fill) (a .s) (a .tolerance) (a .randomised) (a .marked .now) (a .frame .now) (c .before .before .before .before .before .before .before .before .receive-parameters .result) (c .before .before .before .before .before .before .before .before .receive-parameters .ensures) (c .before .before .before .before .before .before .enum-told .given .1) _ _ (c .before .before .before .before .test .ensures) (c .before .before .tested .given .1))
 
 enum-told-2 : tie.Need-enum-told-2
 enum-told-2 c = search needs
 
--- src/receiver.rt:86:48
 sub-decode-part : tie.Need-sub-decode-part
 sub-decode-part c =
-    let a = c .before .before .before .before .before .before .before .before .before .args in 
+    let a = c .before .before .before .before .before .before .before .before .before .args in
     four-at-least (a .e) (a .depth) (a .fill) (a .s) (a .tolerance) (a .randomised) (a .marked .now) (a .frame .now) (c .before .before .before .before .before .before .receive-parameters .result) (c .before .before .before .before .before .before .receive-parameters .ensures) (c .before .before .before .before .enum-told .given .1)
 
--- src/receiver.rt:86:48
 part-decode-part-start : tie.Need-part-decode-part-start
 part-decode-part-start c =
-    let a = c .before .before .before .before .before .before .before .before .before .args in 
+    let a = c .before .before .before .before .before .before .before .before .before .args in
     let fits : 4 ≤ length (a .marked .now) = four-at-least (a .e) (a .depth) (a .fill) (a .s) (a .tolerance) (a .randomised) (a .marked .now) (a .frame .now) (c .before .before .before .before .before .before .receive-parameters .result) (c .before .before .before .before .before .before .receive-parameters .ensures) (c .before .before .before .before .enum-told .given .1) in
     search needs
 
--- src/receiver.rt:86:48
 part-decode-part-end : tie.Need-part-decode-part-end
 part-decode-part-end c = search needs
 
--- src/receiver.rt:86:5
 decode-part-requires : tie.Need-decode-part-requires
 decode-part-requires c κs =
-    let a = c .before .before .before .before .before .before .before .before .before .before .before .args in 
+    let a = c .before .before .before .before .before .before .before .before .before .before .before .args in
     part-within (a .e) (a .depth) (a .fill) (a .s) (a .tolerance) (a .randomised) (a .marked .now) (a .frame .now) (c .before .before .before .before .before .before .before .before .receive-parameters .result) (c .before .before .before .before .before .before .before .before .receive-parameters .ensures) (c .before .before .before .before .before .before .enum-told .given .1)
 
--- src/receiver.rt:65:1
 same-length : tie.Need-same-length
 same-length c = search needs
 
--- src/receiver.rt:65:1
 returns-3 : tie.Need-returns-3
 returns-3 c =
-    let a = c .before .before .before .before .before .before .before .before .before .before .before .before .before .before .args in 
+    let a = c .before .before .before .before .before .before .before .before .before .before .before .before .before .before .args in
     as-decoded (a .e) (a .depth) (a .fill) (a .s) (a .tolerance) (a .randomised) (a .marked .now) (a .frame .now) (c .before .before .before .before .before .before .before .before .before .before .before .receive-parameters .result) (c .before .before .before .before .before .before .before .before .before .before .before .receive-parameters .ensures) (c .before .before .before .before .before .before .before .before .before .enum-told .given .1) _ _ (c .before .before .before .before .before .before .before .test .ensures) (c .before .before .before .before .before .enum-told2 .given .1) _ _ _ _ (c .before .before .decode-part .ensures)
 
 pub receive-spec : {M : Type 1} → statement M
