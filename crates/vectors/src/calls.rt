@@ -1,6 +1,9 @@
-// Encode and decode, each with the line that its outcome makes.
+// Encode, decode, transmit and receive, each with the line that its outcome makes.
 use crate::print;
+use chain::Received;
+use chain::Stage;
 use reed_solomon::Decoded;
+use refusals::MarkerRefusal;
 use refusals::WordRefusal;
 
 fn code(e: u32, depth: u32, fill: u32) {
@@ -40,6 +43,96 @@ pub fn decode(e: u32, depth: u32, fill: u32, s: u32, block: &[u8], frame: &mut [
     answer(decoded);
     print::number(decoding.total as u64);
     let counts = decoding.counts;
+    print::numbers(&counts);
+    print::buffer(frame);
+    print::end();
+}
+
+fn flag(randomised: bool) {
+    if randomised {
+        print::number(1);
+    } else {
+        print::number(0);
+    }
+}
+
+pub fn transmit(e: u32, depth: u32, fill: u32, randomised: bool, frame: &[u8], marked: &mut [u8]) {
+    print::text(b"transmit");
+    code(e, depth, fill);
+    flag(randomised);
+    let verdict = chain::transmit(e, depth, fill, randomised, frame, &mut *marked);
+    print::number(print::verdict(verdict));
+    print::buffer(marked);
+    print::end();
+}
+
+fn number_and_value(number: u64, value: u32) {
+    print::number(number);
+    print::number(value as u64);
+}
+
+fn stage(refused: Stage) {
+    match refused {
+        Stage::Parameters(p) => {
+            print::text(b" parameters");
+            number_and_value(print::parameter(p), 0);
+        }
+        Stage::Marker(refusal) => {
+            print::text(b" marker");
+            match refusal {
+                MarkerRefusal::Parameters(p) => number_and_value(print::parameter(p), 0),
+                MarkerRefusal::WrongBits(wrong) => number_and_value(9, wrong),
+            }
+        }
+        Stage::Word(refusal) => {
+            print::text(b" word");
+            match refusal {
+                WordRefusal::Parameters(p) => number_and_value(print::parameter(p), 0),
+                WordRefusal::NoCodeword(word) => number_and_value(10, word),
+            }
+        }
+    }
+}
+
+fn reply(received: Received) {
+    match received {
+        Received::Delivered => {
+            print::text(b" delivered");
+            number_and_value(0, 0);
+        }
+        Received::Refused(refused) => stage(refused),
+    }
+}
+
+pub fn receive(
+    e: u32,
+    depth: u32,
+    fill: u32,
+    s: u32,
+    tolerance: u32,
+    randomised: bool,
+    marked: &[u8],
+    frame: &mut [u8],
+) {
+    print::text(b"receive");
+    code(e, depth, fill);
+    print::number(s as u64);
+    print::number(tolerance as u64);
+    flag(randomised);
+    let reception = chain::receive(
+        e,
+        depth,
+        fill,
+        s,
+        tolerance,
+        randomised,
+        marked,
+        &mut *frame,
+    );
+    let received = reception.answer;
+    reply(received);
+    print::number(reception.total as u64);
+    let counts = reception.counts;
     print::numbers(&counts);
     print::buffer(frame);
     print::end();

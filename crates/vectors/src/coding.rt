@@ -50,14 +50,14 @@ fn parts(octet: u8) {
     part(8, 238, octet, 8, &mut short);
 }
 
-fn change(s: &mut [u8], at: usize, added: u8) {
+pub(crate) fn change(s: &mut [u8], at: usize, added: u8) {
     if at < s.len() {
         s[at] = s[at] ^ added;
     }
 }
 
 // So many octets changed, from `start` on, each so many places after the one before.
-fn changes(s: &mut [u8], start: usize, step: usize, wrong: usize, added: u8)
+pub(crate) fn changes(s: &mut [u8], start: usize, step: usize, wrong: usize, added: u8)
     requires { ⌜ (start ≤ 255) × (step ≤ 3) × (wrong ≤ 255) ⌝ }
 {
     let mut at = start;

@@ -1,6 +1,7 @@
 // Runs the coders on the documents' tables, on worked cases, at every limit and one past it. The expected output is not
 // made by this code: docs/src/README.md says where each line comes from.
 mod calls;
+mod chaining;
 mod coding;
 mod convolving;
 mod limits;
@@ -16,4 +17,5 @@ fn main() {
     convolving::all();
     limits::all();
     coding::all();
+    chaining::all();
 }

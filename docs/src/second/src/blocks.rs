@@ -27,7 +27,7 @@ impl Code {
     }
 
     /// The number, and the block as it is afterwards.
-    fn encode(&self, frame: &[u8], before: &[u8]) -> (u64, Vec<u8>) {
+    pub fn encode(&self, frame: &[u8], before: &[u8]) -> (u64, Vec<u8>) {
         let mut block = before.to_vec();
         let number = encode_number(self.e, self.i, self.q, frame.len() as u64, before.len() as u64);
         if number == 0 {
@@ -41,7 +41,7 @@ impl Code {
         (number, block)
     }
 
-    fn decode(&self, s: u64, block: &[u8], before: &[u8]) -> Decoding {
+    pub fn decode(&self, s: u64, block: &[u8], before: &[u8]) -> Decoding {
         let number = decode_number(self.e, self.i, self.q, s, block.len() as u64, before.len() as u64);
         if number != 0 {
             return Decoding::refused(number.to_string(), before);
@@ -68,20 +68,25 @@ impl Code {
     /// Writes the line of a decode into a frame of so many octets 170.
     pub fn write_decode(&self, s: u64, block: &[u8], frame: usize) {
         let out = self.decode(s, block, &vec![170; frame]);
-        let total: usize = out.counts.iter().sum();
-        let counts: String = out.counts.iter().map(|c| format!(" {c}")).collect();
-        println!("decode {} {} {} {s} {} {total}{counts}{}", self.e, self.i, self.q, out.answer, buffer(&out.frame));
+        println!("decode {} {} {} {s} {} {}", self.e, self.i, self.q, out.answer, out.report());
     }
 }
 
-struct Decoding {
-    answer: String,
+pub struct Decoding {
+    pub answer: String,
     counts: [usize; 8],
     frame: Vec<u8>,
 }
 
 impl Decoding {
-    fn refused(answer: String, before: &[u8]) -> Decoding {
+    /// What a line says after the answer: the total, the eight counts and the frame afterwards.
+    pub fn report(&self) -> String {
+        let total: usize = self.counts.iter().sum();
+        let counts: String = self.counts.iter().map(|c| format!(" {c}")).collect();
+        format!("{total}{counts}{}", buffer(&self.frame))
+    }
+
+    pub fn refused(answer: String, before: &[u8]) -> Decoding {
         Decoding { answer, counts: [0; 8], frame: before.to_vec() }
     }
 }

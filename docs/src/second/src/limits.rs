@@ -73,7 +73,7 @@ pub fn encode_number(e: u64, i: u64, q: u64, frame: u64, block: u64) -> u64 {
     first(&[1, 2, 3, 5, 6], &outgoing(e, i, q, frame, block, 0))
 }
 
-fn transmit_number(e: u64, i: u64, q: u64, frame: u64, block: u64) -> u64 {
+pub fn transmit_number(e: u64, i: u64, q: u64, frame: u64, block: u64) -> u64 {
     first(&[1, 2, 3, 5, 6], &outgoing(e, i, q, frame, block, 4))
 }
 
@@ -82,7 +82,8 @@ pub fn decode_number(e: u64, i: u64, q: u64, s: u64, block: u64, frame: u64) -> 
     first(&[1, 2, 3, 4, 5, 6], &incoming(outgoing(e, i, q, frame, block, 0), s, 0))
 }
 
-fn receive_number(e: u64, i: u64, q: u64, s: u64, t: u64, block: u64, frame: u64) -> u64 {
+/// Receive's number but for 9 and 10.
+pub fn receive_number(e: u64, i: u64, q: u64, s: u64, t: u64, block: u64, frame: u64) -> u64 {
     first(&[1, 2, 3, 4, 8, 5, 6], &incoming(outgoing(e, i, q, frame, block, 4), s, t))
 }
 

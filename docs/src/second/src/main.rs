@@ -2,6 +2,7 @@
 //! `second NAME` writes what the program NAME must write.
 
 mod blocks;
+mod chain;
 mod compare;
 mod convolution;
 mod data;
@@ -22,6 +23,7 @@ fn main() {
             convolution::write_all();
             limits::write_all();
             reed_solomon::write_all();
+            chain::write_all();
         }
         Some("compare") => compare::write_all(),
         _ => eprintln!("second vectors | second compare"),

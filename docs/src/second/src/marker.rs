@@ -2,9 +2,9 @@
 
 use crate::data::{bits, drawn};
 
-const MARKER: [u8; 4] = [0x1A, 0xCF, 0xFC, 0x1D];
+pub const MARKER: [u8; 4] = [0x1A, 0xCF, 0xFC, 0x1D];
 
-fn wrong(stream: &[bool], place: usize) -> u32 {
+pub fn wrong(stream: &[bool], place: usize) -> u32 {
     bits(&MARKER).iter().zip(&stream[place..]).filter(|(a, b)| a != b).count() as u32
 }
 
