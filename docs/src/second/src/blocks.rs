@@ -74,7 +74,7 @@ impl Code {
 
 pub struct Decoding {
     pub answer: String,
-    counts: [usize; 8],
+    pub counts: [usize; 8],
     frame: Vec<u8>,
 }
 

@@ -1,5 +1,6 @@
 //! The second program: document 01 once more, in plain Rust and by other methods than the proved code.
-//! `second NAME` writes what the program NAME must write.
+//! `second NAME` writes what the program NAME must write; `second report-input NAME` and `second report-output NAME` write what a
+//! report program reads and what it must write of that.
 
 mod blocks;
 mod chain;
@@ -11,12 +12,14 @@ mod limits;
 mod marker;
 mod randomiser;
 mod reed_solomon;
+mod report;
 mod symbols;
 mod word;
 
 fn main() {
-    match std::env::args().nth(1).as_deref() {
-        Some("vectors") => {
+    let argument = |n: usize| std::env::args().nth(n).unwrap_or_default();
+    match argument(1).as_str() {
+        "vectors" => {
             symbols::write_all();
             randomiser::write_all();
             marker::write_all();
@@ -25,7 +28,9 @@ fn main() {
             reed_solomon::write_all();
             chain::write_all();
         }
-        Some("compare") => compare::write_all(),
-        _ => eprintln!("second vectors | second compare"),
+        "compare" => compare::write_all(),
+        "report-input" => report::write_input(&argument(2)),
+        "report-output" => report::write_output(&argument(2)),
+        _ => eprintln!("second vectors | compare | report-input NAME | report-output NAME"),
     }
 }

@@ -1,0 +1,4 @@
+-- The lines of a report.
+pub mod Lines
+pub mod Text
+pub mod Working

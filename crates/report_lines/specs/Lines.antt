@@ -1,0 +1,50 @@
+-- The octets of a report's lines, in ASCII (document 01, "The report program").
+use mathlib.Core.Bool.{cond}
+use mathlib.Core.List.{List, [], _∷_, _++_}
+use Prim.Native.Nat.{ℕ, zero, suc, _+_, _/_, _%_}
+use lib.Dec.{ltb}
+use Rattle.report_lines.specs.declared.ReportLine.{ReportLine}
+use Rattle.report_lines.specs.declared.ReportLine.the-variants.{Corrected, Refused, Lost, Short, End}
+
+-- A number in decimal, of at most so many digits, the most significant first.
+unfoldable pub decimalWithin : ℕ → ℕ → List ℕ
+decimalWithin zero n = []
+decimalWithin (suc digits) n = cond (ltb n 10) [] (decimalWithin digits (n / 10)) ++ ((48 + n % 10) ∷ [])
+
+-- Twenty digits hold every number of 64 bits.
+abbrev pub decimal : ℕ → List ℕ
+decimal n = decimalWithin 20 n
+
+-- "block ", ": corrected ", ": refused ", ": refused 10 word ", "short ", "end ", and the line's end.
+abbrev pub blockText : List ℕ
+blockText = 98 ∷ 108 ∷ 111 ∷ 99 ∷ 107 ∷ 32 ∷ []
+
+abbrev pub correctedText : List ℕ
+correctedText = 58 ∷ 32 ∷ 99 ∷ 111 ∷ 114 ∷ 114 ∷ 101 ∷ 99 ∷ 116 ∷ 101 ∷ 100 ∷ 32 ∷ []
+
+abbrev pub refusedText : List ℕ
+refusedText = 58 ∷ 32 ∷ 114 ∷ 101 ∷ 102 ∷ 117 ∷ 115 ∷ 101 ∷ 100 ∷ 32 ∷ []
+
+abbrev pub lostText : List ℕ
+lostText = 58 ∷ 32 ∷ 114 ∷ 101 ∷ 102 ∷ 117 ∷ 115 ∷ 101 ∷ 100 ∷ 32 ∷ 49 ∷ 48 ∷ 32 ∷ 119 ∷ 111 ∷ 114 ∷ 100 ∷ 32 ∷ []
+
+abbrev pub shortText : List ℕ
+shortText = 115 ∷ 104 ∷ 111 ∷ 114 ∷ 116 ∷ 32 ∷ []
+
+abbrev pub endText : List ℕ
+endText = 101 ∷ 110 ∷ 100 ∷ 32 ∷ []
+
+abbrev pub lineEnd : List ℕ
+lineEnd = 10 ∷ []
+
+-- The line of a block that was delivered, of one that was refused, of one refused by 10 with its word; of octets left over; of the end.
+abbrev pub lineOf : ReportLine → List ℕ
+lineOf (Corrected block total) = blockText ++ (decimal block ++ (correctedText ++ (decimal total ++ lineEnd)))
+lineOf (Refused block number) = blockText ++ (decimal block ++ (refusedText ++ (decimal number ++ lineEnd)))
+lineOf (Lost block word) = blockText ++ (decimal block ++ (lostText ++ (decimal word ++ lineEnd)))
+lineOf (Short octets) = shortText ++ (decimal octets ++ lineEnd)
+lineOf (End blocks) = endText ++ (decimal blocks ++ lineEnd)
+
+-- The lines after the last whole block: that of octets left over, if there are any, and the end line.
+abbrev pub closingOf : ℕ → ℕ → List ℕ
+closingOf left blocks = cond (ltb 0 left) (lineOf (Short left)) [] ++ lineOf (End blocks)

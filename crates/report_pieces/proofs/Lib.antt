@@ -1,0 +1,3 @@
+-- The laws of the report's pieces.
+pub mod Texts
+pub mod Settled

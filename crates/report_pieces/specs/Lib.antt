@@ -1,0 +1,2 @@
+-- What the report says of a piece of its input.
+pub mod Pieces

@@ -1,0 +1,46 @@
+-- What the report says of a piece of its input (document 01, "The report program").
+use mathlib.Core.Bool.{true}
+use mathlib.Core.List.{List}
+use Prim.Native.Nat.{ℕ, _≤_, _<_}
+use lib.ListN.{length, replicate}
+use Rattle.refusals.specs.Numbers.{parameterNumber, markerNumber}
+use Rattle.refusals.specs.declared.WordRefusal.the-variants as word
+use Rattle.chain.specs.declared.Stage.{Stage}
+use Rattle.chain.specs.declared.Stage.the-variants.{Parameters, Marker, Word}
+use Rattle.chain.specs.declared.Received.{Received}
+use Rattle.chain.specs.Outcome.{ReceiveOutcome}
+use Rattle.report_lines.specs.declared.ReportLine.{ReportLine}
+use Rattle.report_lines.specs.declared.ReportLine.the-variants.{Corrected, Refused, Lost}
+use Rattle.report_lines.specs.declared.Text.{Text}
+use Rattle.report_lines.specs.Text.{LineOutcome, ClosingOutcome}
+use Rattle.chain.specs.declared.Received.the-variants as received
+
+-- The line of a refused block: by 10 it names the word, by any other number that number.
+abbrev pub refusedLine : ℕ → Stage → ReportLine
+refusedLine block (Parameters p) = Refused block (parameterNumber p)
+refusedLine block (Marker r) = Refused block (markerNumber r)
+refusedLine block (Word (word.Parameters p)) = Refused block (parameterNumber p)
+refusedLine block (Word (word.NoCodeword w)) = Lost block w
+
+-- The line of a block that receive answered so, with this total.
+abbrev pub answeredLine : ℕ → Received → ℕ → ReportLine
+answeredLine block received.Delivered total = Corrected block total
+answeredLine block (received.Refused stage) total = refusedLine block stage
+
+-- A frame of zeros, which receive fills when it delivers.
+unfoldable pub emptyFrame : List ℕ
+emptyFrame = replicate 1115 0
+
+-- The text is the line of the block as receive answers it, at E 16, I 5, Q 0, s 16 and tolerance 3, randomised.
+pub record BlockReported (block : ℕ) (marked : List ℕ) (text : Text) : Type 0 where
+  pub answer : Received
+  pub counts : List ℕ
+  pub total : ℕ
+  pub frame : List ℕ
+  pub received : ReceiveOutcome 16 5 0 16 3 true marked emptyFrame answer counts total frame
+  pub said : LineOutcome (answeredLine block answer total) text
+
+-- A piece of 1,279 octets is a block, whose number is given; a shorter one is what is left after so many blocks.
+pub record PieceOutcome (block : ℕ) (octets : List ℕ) (text : Text) : Type 0 where
+  pub whole : 1279 ≤ length octets → BlockReported block octets text
+  pub left : length octets < 1279 → ClosingOutcome (length octets) block text

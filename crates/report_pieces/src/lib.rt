@@ -1,0 +1,92 @@
+// What the report writes of each piece of its input: the line of a whole block, or the closing lines.
+ghost use mathlib.Core.Path.{_≡_};
+ghost use Rattle.refusals.specs.Numbers.{parameterNumber, markerNumber};
+ghost use Rattle.report_pieces.specs.Pieces.{refusedLine, answeredLine, BlockReported, PieceOutcome};
+use chain::Received;
+use chain::Stage;
+use refusals::MarkerRefusal;
+use refusals::Parameter;
+use refusals::WordRefusal;
+use report_lines::ReportLine;
+use report_lines::Text;
+
+fn parameter_number(p: Parameter) -> u64
+    ensures { λ r. ⌜ r ≡ parameterNumber p ⌝ }
+{
+    match p {
+        Parameter::Strength => 1,
+        Parameter::Depth => 2,
+        Parameter::Fill => 3,
+        Parameter::Allowance => 4,
+        Parameter::Input => 5,
+        Parameter::Output => 6,
+        Parameter::Rate => 7,
+        Parameter::Tolerance => 8,
+        Parameter::Start => 11,
+    }
+}
+
+fn marker_number(refusal: MarkerRefusal) -> u64
+    ensures { λ r. ⌜ r ≡ markerNumber refusal ⌝ }
+{
+    match refusal {
+        MarkerRefusal::Parameters(p) => parameter_number(p),
+        MarkerRefusal::WrongBits(_) => 9,
+    }
+}
+
+fn refused_line(block: u64, stage: Stage) -> ReportLine
+    ensures { λ r. ⌜ r ≡ refusedLine block stage ⌝ }
+{
+    match stage {
+        Stage::Parameters(p) => ReportLine::Refused {
+            block,
+            number: parameter_number(p),
+        },
+        Stage::Marker(refusal) => ReportLine::Refused {
+            block,
+            number: marker_number(refusal),
+        },
+        Stage::Word(refusal) => match refusal {
+            WordRefusal::Parameters(p) => ReportLine::Refused {
+                block,
+                number: parameter_number(p),
+            },
+            WordRefusal::NoCodeword(w) => ReportLine::Lost {
+                block,
+                word: w as u64,
+            },
+        },
+    }
+}
+
+fn answered_line(block: u64, answer: Received, total: u32) -> ReportLine
+    ensures { λ r. ⌜ r ≡ answeredLine block answer total ⌝ }
+{
+    match answer {
+        Received::Delivered => ReportLine::Corrected {
+            block,
+            total: total as u64,
+        },
+        Received::Refused(stage) => refused_line(block, stage),
+    }
+}
+
+fn block_text(block: u64, marked: &[u8]) -> Text
+    ensures { λ r. ⌜ BlockReported block (now (marked .entry)) r ⌝ }
+{
+    let mut frame = [0u8; 1115];
+    let reception = chain::receive(16, 5, 0, 16, 3, true, marked, &mut frame);
+    let answer = reception.answer;
+    report_lines::line(answered_line(block, answer, reception.total))
+}
+
+pub fn piece(block: u64, octets: &[u8]) -> Text
+    ensures { λ r. ⌜ PieceOutcome block (now (octets .entry)) r ⌝ }
+{
+    let n = octets.len();
+    if n < 1279 {
+        return report_lines::closing(n as u64, block);
+    }
+    block_text(block, octets)
+}
