@@ -15,25 +15,31 @@ decimalWithin (suc digits) n = cond (ltb n 10) [] (decimalWithin digits (n / 10)
 abbrev pub decimal : ℕ → List ℕ
 decimal n = decimalWithin 20 n
 
--- "block ", ": corrected ", ": refused ", ": refused 10 word ", "short ", "end ", and the line's end.
+-- "block "
 abbrev pub blockText : List ℕ
 blockText = 98 ∷ 108 ∷ 111 ∷ 99 ∷ 107 ∷ 32 ∷ []
 
+-- ": corrected "
 abbrev pub correctedText : List ℕ
 correctedText = 58 ∷ 32 ∷ 99 ∷ 111 ∷ 114 ∷ 114 ∷ 101 ∷ 99 ∷ 116 ∷ 101 ∷ 100 ∷ 32 ∷ []
 
+-- ": refused "
 abbrev pub refusedText : List ℕ
 refusedText = 58 ∷ 32 ∷ 114 ∷ 101 ∷ 102 ∷ 117 ∷ 115 ∷ 101 ∷ 100 ∷ 32 ∷ []
 
+-- ": refused 10 word "
 abbrev pub lostText : List ℕ
 lostText = 58 ∷ 32 ∷ 114 ∷ 101 ∷ 102 ∷ 117 ∷ 115 ∷ 101 ∷ 100 ∷ 32 ∷ 49 ∷ 48 ∷ 32 ∷ 119 ∷ 111 ∷ 114 ∷ 100 ∷ 32 ∷ []
 
+-- "short "
 abbrev pub shortText : List ℕ
 shortText = 115 ∷ 104 ∷ 111 ∷ 114 ∷ 116 ∷ 32 ∷ []
 
+-- "end "
 abbrev pub endText : List ℕ
 endText = 101 ∷ 110 ∷ 100 ∷ 32 ∷ []
 
+-- A line ends with one line feed.
 abbrev pub lineEnd : List ℕ
 lineEnd = 10 ∷ []
 

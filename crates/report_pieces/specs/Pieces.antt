@@ -40,7 +40,7 @@ pub record BlockReported (block : ℕ) (marked : List ℕ) (text : Text) : Type 
   pub received : ReceiveOutcome 16 5 0 16 3 true marked emptyFrame answer counts total frame
   pub said : LineOutcome (answeredLine block answer total) text
 
--- A piece of 1,279 octets is a block, whose number is given; a shorter one is what is left after so many blocks.
+-- A piece is a block, of which the number is given, unless it is shorter than 1,279 octets: then it is what is left after so many blocks.
 pub record PieceOutcome (block : ℕ) (octets : List ℕ) (text : Text) : Type 0 where
   pub whole : 1279 ≤ length octets → BlockReported block octets text
   pub left : length octets < 1279 → ClosingOutcome (length octets) block text

@@ -52,10 +52,10 @@ fn refused_line(block: u64, stage: Stage) -> ReportLine
                 block,
                 number: parameter_number(p),
             },
-            WordRefusal::NoCodeword(w) => ReportLine::Lost {
-                block,
-                word: w as u64,
-            },
+            WordRefusal::NoCodeword(w) => {
+                let word = w as u64;
+                ReportLine::Lost { block, word }
+            }
         },
     }
 }

@@ -38,8 +38,8 @@ parameter-number-requires-2 c κs = search needs
 enum-known-refusal-2 : tie.Need-enum-known-refusal-2
 enum-known-refusal-2 c = search needs
 
-cast-t13 : tie.Need-cast-t13
-cast-t13 c = search needs
+cast-word : tie.Need-cast-word
+cast-word c = search needs
 
 returns : tie.Need-returns
 returns c =
@@ -69,7 +69,7 @@ refused-line-spec =
     enum-known-refusal
     parameter-number-requires-2
     enum-known-refusal-2
-    cast-t13
+    cast-word
     returns
     returns-2
     returns-3
