@@ -13,18 +13,13 @@ use Rattle.field.proofs.Sum.{⊕-self, ⊕-zero, zero-⊕}
 use Rattle.field.proofs.Product.{zero-·, ring, ·-one-octet}
 use Rattle.field.proofs.Powers.{pow-zero, pow-suc}
 use Rattle.codewords.specs.Words.{Octets, valueAt}
-use Rattle.codewords.proofs.Polynomials.{_⊞_, scaled, length-scaled}
+use Rattle.codewords.specs.Polynomials.{_⊞_, scaled}
+use Rattle.codewords.specs.Locators.{X, Code, Generator}
+use Rattle.codewords.proofs.Polynomials.{length-scaled}
 use Rattle.codewords.proofs.Division.{⊞-octets, scaled-octets}
 use Rattle.codewords.proofs.WordValues.{value-cons, value-lt, length-pair, value-⊞, value-++, value-scaled, value-one-more, length-snoc, octets-++, zeros-octets, zeros-value, horner, horner-value}
-use Rattle.codewords.proofs.ErrorPatterns.{X}
-use Rattle.codewords.proofs.NearCodewords.{Code}
 
 -- ---- the check symbols
-
--- the generator without its leading one, highest first
-pub record Generator (m N : ℕ) (gl : List ℕ) : Type 0 where
-  pub size : length gl ≡ N
-  pub roots : (j : ℕ) → j < N → valueAt gl (X (m + j)) ≡ pow (X (m + j)) N
 
 -- the row of checks after the information symbol u
 unfoldable pub push : List ℕ → List ℕ → ℕ → List ℕ

@@ -8,14 +8,16 @@ use lib.ListN.{length, take, drop, replicate, length-append, length-drop, length
 use lib.Seq.{take-at}
 use Rattle.field.specs.Line.{toLine, toConventional}
 use Rattle.codewords.specs.Words.{Octets, valueAt, Codeword, differing, withFill, Good}
-use Rattle.codewords.proofs.Polynomials.{_⊞_}
+use Rattle.codewords.specs.Polynomials.{_⊞_}
+use Rattle.codewords.specs.Locators.{X, weight, Code, Generator, Near, GoodWord}
+use Rattle.codewords.specs.Errors.{register, corrections, corrected, Counts}
 use Rattle.codewords.proofs.WordValues.{length-pair, octets-++, octets-rest, zeros-octets, fill-length}
-use Rattle.codewords.proofs.ErrorPatterns.{X, weight, X-is}
-use Rattle.codewords.proofs.NearCodewords.{Code, Near, codes-equal}
-use Rattle.codewords.proofs.Checks.{Generator, length-checks, checks-octets, checks, encoded}
-use Rattle.codewords.proofs.DoubtfulSymbols.{unmarkedPart-all, GoodWord, good-near, near-good, code-fill, fill-code}
-use Rattle.codewords.proofs.Corrections.{register, corrections, good-length, good-is}
-use Rattle.codewords.proofs.RootCount.{Counts, counts-good, good-counts}
+use Rattle.codewords.proofs.ErrorPatterns.{X-is}
+use Rattle.codewords.proofs.NearCodewords.{codes-equal}
+use Rattle.codewords.proofs.Checks.{length-checks, checks-octets, checks, encoded}
+use Rattle.codewords.proofs.DoubtfulSymbols.{unmarkedPart-all, good-near, near-good, code-fill, fill-code}
+use Rattle.codewords.proofs.Corrections.{good-length, good-is}
+use Rattle.codewords.proofs.RootCount.{counts-good, good-counts}
 use Rattle.codewords.proofs.LineWords.{conversion-octets, line-octets, back-to-line, back-to-conventional, conversion-injective, conversion-++, conversion-fill, differing-symmetric, differing-triangle, differing-front, differing-at-most, differing-weight}
 
 -- ---- codewords by their conventional octets
@@ -98,10 +100,6 @@ encoded-codeword e q generator information h positive G o whole =
     converted =
         conversion-++ information (map toLine row)
         ∙ ap (λ (w : List ℕ). us ++ w) (back-to-conventional row (checks-octets generator us (replicate (length generator) 0) (zeros-octets (length generator))))
-
--- the sent symbols with the errors found taken away, on the line again
-abbrev pub corrected : ℕ → List ℕ → List ℕ → List ℕ
-corrected e marks sent = map toLine (map toConventional sent ⊞ corrections (128 - e) e marks (map toConventional sent))
 
 -- a good codeword is its last symbols with the fill in front
 pub good-filled : (e q s : ℕ) (received c : List ℕ) → Good e q s received c → c ≡ withFill q (drop q c)

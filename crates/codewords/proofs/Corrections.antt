@@ -7,31 +7,14 @@ use lib.ListN.{length}
 use Rattle.field.specs.Field.{_⊕_}
 use Rattle.field.proofs.Sum.{⊕-self, ⊕-zero}
 use Rattle.codewords.specs.Words.{Octets, valueAt}
-use Rattle.codewords.proofs.Polynomials.{_⊞_, dot}
+use Rattle.codewords.specs.Polynomials.{_⊞_}
+use Rattle.codewords.specs.Locators.{X, weight, syndromes, unmarkedPart, GoodWord}
+use Rattle.codewords.specs.Errors.{errorWord, changed, register, product, corrections}
 use Rattle.codewords.proofs.Division.{⊞-octets}
 use Rattle.codewords.proofs.WordValues.{length-pair, value-⊞}
-use Rattle.codewords.proofs.ErrorPatterns.{X, weight}
-use Rattle.codewords.proofs.ErrorsFound.{RegisterState, run, run-invariant, errorWord, errorWord-octets, length-errorWord}
-use Rattle.codewords.proofs.NearCodewords.{syndromes, ⊞-back}
-use Rattle.codewords.proofs.DoubtfulSymbols.{unmarkedPart, GoodWord}
-use Rattle.codewords.proofs.MarkedPlaces.{timesMarks, erasure}
+use Rattle.codewords.proofs.ErrorsFound.{run-invariant, errorWord-octets, length-errorWord}
+use Rattle.codewords.proofs.NearCodewords.{⊞-back}
 use Rattle.codewords.proofs.DoubtfulErrors.{errors-length, marks-found}
-
--- the changed syndromes
-unfoldable pub changed : ℕ → List ℕ → List ℕ → ℕ → ℕ
-changed m d r i = dot (syndromes m r) i (erasure d)
-
--- the register of the first 2E - f of them
-unfoldable pub register : ℕ → ℕ → List ℕ → List ℕ → RegisterState
-register m E d r = run (changed m d r) (E + E - weight d)
-
--- the register's polynomial times that of the marked places
-unfoldable pub product : ℕ → ℕ → List ℕ → List ℕ → List ℕ
-product m E d r = timesMarks d (register m E d r .sig)
-
--- what is to be added to r
-unfoldable pub corrections : ℕ → ℕ → List ℕ → List ℕ → List ℕ
-corrections m E d r = errorWord (syndromes m r) (product m E d r) m (length r)
 
 pub length-corrections : (m E : ℕ) (d r : List ℕ) → length (corrections m E d r) ≡ length r
 unfolding corrections

@@ -11,7 +11,7 @@ use Rattle.field.proofs.Sum.{⊕-zero, zero-⊕, ⊕-octet}
 use Rattle.field.proofs.Product.{·-lt, zero-·, ·-zero, ring}
 use Rattle.field.proofs.Powers.{no-zero, ⊕-nz}
 use Rattle.codewords.specs.Words.{Octets}
-use Rattle.codewords.proofs.Polynomials.{eval, _⊞_, scaled, dot}
+use Rattle.codewords.specs.Polynomials.{eval, _⊞_, scaled, shiftBy, quot, dot}
 use Rattle.codewords.proofs.Roots.{eval-lt}
 
 -- ---- octets
@@ -28,10 +28,6 @@ scaled-octets c [] = tt
 scaled-octets c (a ∷ p) = (·-lt c a, scaled-octets c p)
 
 -- ---- times a power of X
-
-unfoldable pub shiftBy : ℕ → List ℕ → List ℕ
-shiftBy zero p = p
-shiftBy (suc k) p = 0 ∷ shiftBy k p
 
 pub length-shift : (k : ℕ) (p : List ℕ) → length (shiftBy k p) ≡ k + length p
 unfolding shiftBy
@@ -79,12 +75,6 @@ top-shift (suc zero) c p = refl
 top-shift (suc (suc k)) c p = top-shift (suc k) c p
 
 -- ---- division by X + x
-
--- entry j is what Horner's rule has at the coefficients above j
-unfoldable pub quot : List ℕ → ℕ → List ℕ
-quot [] x = []
-quot (c ∷ []) x = []
-quot (c ∷ d ∷ p) x = eval (d ∷ p) x ∷ quot (d ∷ p) x
 
 pub length-quot : (c : ℕ) (p : List ℕ) (x : ℕ) → length (quot (c ∷ p) x) ≡ length p
 unfolding quot

@@ -10,13 +10,14 @@ use Rattle.field.specs.Field.{_·_}
 use Rattle.field.proofs.Product.{zero-·, ·-zero}
 use Rattle.field.proofs.Powers.{·-nz}
 use Rattle.codewords.specs.Words.{Octets, valueAt}
-use Rattle.codewords.proofs.Polynomials.{eval, dot, dot-ext, Pattern, syndromeOf}
+use Rattle.codewords.specs.Polynomials.{eval, dot}
+use Rattle.codewords.specs.Locators.{X, weight, unmarkedPart, timesMarks, erasure}
+use Rattle.codewords.specs.Errors.{errorWord}
+use Rattle.codewords.proofs.Polynomials.{dot-ext, Pattern, syndromeOf}
 use Rattle.codewords.proofs.Roots.{Proper, Rooted, Solid, eval-lt}
 use Rattle.codewords.proofs.ShortestRegister.{Invariant, not-long, all-found, not-short}
-use Rattle.codewords.proofs.ErrorPatterns.{X, patternOf, weight, weight-cons, length-pattern, syndrome-pattern, pattern-proper, pattern-solid}
-use Rattle.codewords.proofs.ErrorsFound.{errorWord}
-use Rattle.codewords.proofs.DoubtfulSymbols.{unmarkedPart}
-use Rattle.codewords.proofs.MarkedPlaces.{timesMarks, erasure, length-timesMarks, timesMarks-octets, top-timesMarks, timesMarks-product, ZeroOnlyAtMarks, erasure-octets, length-erasure, erasure-zero-only, timesWord, length-timesWord, timesWord-octets, value-timesWord, weight-timesWord}
+use Rattle.codewords.proofs.ErrorPatterns.{patternOf, weight-cons, length-pattern, syndrome-pattern, pattern-proper, pattern-solid}
+use Rattle.codewords.proofs.MarkedPlaces.{length-timesMarks, timesMarks-octets, top-timesMarks, timesMarks-product, ZeroOnlyAtMarks, erasure-octets, length-erasure, erasure-zero-only, timesWord, length-timesWord, timesWord-octets, value-timesWord, weight-timesWord}
 use Rattle.codewords.proofs.PlacedErrors.{Covers, Roots, placed-found}
 
 -- ---- candidate places

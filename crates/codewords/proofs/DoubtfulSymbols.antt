@@ -6,19 +6,13 @@ use native.Mathlib.Omega.{arith}
 use lib.ListN.{length, replicate}
 use Rattle.field.specs.Field.{_⊕_}
 use Rattle.field.proofs.Sum.{⊕-zero, zero-⊕, ⊕-norm}
-use Rattle.codewords.proofs.Polynomials.{_⊞_}
+use Rattle.codewords.specs.Polynomials.{_⊞_}
+use Rattle.codewords.specs.Locators.{X, weight, Code, Near, unmarkedPart, GoodWord}
 use Rattle.codewords.proofs.WordValues.{length-pair, octets-++, octets-rest, zeros-octets, fill-value, fill-length}
-use Rattle.codewords.proofs.ErrorPatterns.{X, weight, oneIf, weight-cons, oneIf-le}
-use Rattle.codewords.proofs.NearCodewords.{Code, Near, codes-equal}
+use Rattle.codewords.proofs.ErrorPatterns.{oneIf, weight-cons, oneIf-le}
+use Rattle.codewords.proofs.NearCodewords.{codes-equal}
 
 -- ---- the marked and the unmarked part of a word
-
--- a word with zeros at the marked places, and with zeros at the others
-unfoldable pub unmarkedPart : List ℕ → List ℕ → List ℕ
-unmarkedPart [] w = w
-unmarkedPart (x ∷ d) [] = []
-unmarkedPart (zero ∷ d) (c ∷ w) = c ∷ unmarkedPart d w
-unmarkedPart (suc x ∷ d) (c ∷ w) = 0 ∷ unmarkedPart d w
 
 unfoldable pub markedPart : List ℕ → List ℕ → List ℕ
 markedPart [] w = []
@@ -43,12 +37,6 @@ unmarkedPart-all (zero ∷ d) (c ∷ w) z h = ap {B = List ℕ} (λ (t : List �
 unmarkedPart-all (suc x ∷ d) (c ∷ w) z h = absurd (omega arith)
 
 -- ---- good codewords
-
--- e unmarked places differ, f are marked, and 2e + f is at most 2s
-pub record GoodWord (m E s : ℕ) (d r c : List ℕ) : Type 0 where
-  pub size : length r ≡ length c
-  pub code : Code m (E + E) c
-  pub close : weight (unmarkedPart d (r ⊞ c)) + weight (unmarkedPart d (r ⊞ c)) + weight d ≤ s + s
 
 pub more-allowance : (m E s t : ℕ) (d r c : List ℕ) → s ≤ t → GoodWord m E s d r c → GoodWord m E t d r c
 more-allowance m E s t d r c h G = record { size = G .size; code = G .code; close = omega (arith, G .close) }

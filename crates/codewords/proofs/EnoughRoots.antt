@@ -12,13 +12,16 @@ use Rattle.field.proofs.Sum.{⊕-self, ⊕-zero, eq-of-⊕, ⊕-octet}
 use Rattle.field.proofs.Product.{·-lt, ·-comm, ·-assoc, ring, ·-one-octet}
 use Rattle.field.proofs.Powers.{pow-lt, ·-inverse, no-zero, ·-nz}
 use Rattle.codewords.specs.Words.{Octets, valueAt}
-use Rattle.codewords.proofs.Polynomials.{eval, _⊞_, scaled, eval-⊞, eval-scaled, length-scaled, length-⊞, dot, dot-lt, Pattern, syndromeOf, syndrome-lt}
+use Rattle.codewords.specs.Polynomials.{eval, _⊞_, scaled, quot, dot}
+use Rattle.codewords.specs.Locators.{X, weight}
+use Rattle.codewords.specs.Errors.{errorIfRoot, errorOf, errorAt, errorWord, oneIfZero, rootFlags}
+use Rattle.codewords.proofs.Polynomials.{eval-⊞, eval-scaled, length-scaled, length-⊞, dot-lt, Pattern, syndromeOf, syndrome-lt}
 use Rattle.codewords.proofs.Roots.{locators, Proper, Rooted, length-locators, eval-lt, annihilates}
-use Rattle.codewords.proofs.Division.{⊞-octets, scaled-octets, top, top-lt, top-⊞, top-scaled, quot, quot-octets, Distinct, Zeros, root-count}
+use Rattle.codewords.proofs.Division.{⊞-octets, scaled-octets, top, top-lt, top-⊞, top-scaled, quot-octets, Distinct, Zeros, root-count}
 use Rattle.codewords.proofs.ShortestRegister.{proper-distinct}
 use Rattle.codewords.proofs.ErrorValues.{In, here, there, paired, divisor-nz}
-use Rattle.codewords.proofs.ErrorPatterns.{X, weight, pow-nonzero, X-nz}
-use Rattle.codewords.proofs.ErrorsFound.{errorIfRoot, errorOf, errorAt, errorWord, errorIfRoot-zero, length-errorWord}
+use Rattle.codewords.proofs.ErrorPatterns.{pow-nonzero, X-nz}
+use Rattle.codewords.proofs.ErrorsFound.{errorIfRoot-zero, length-errorWord}
 use Rattle.codewords.proofs.PlacedErrors.{placed, Covers, Roots, length-placed, syndrome-placed, placed-proper, placed-rooted}
 
 -- ---- a sequence that pairs to zero with the quotients by enough points is zero
@@ -139,15 +142,6 @@ dot-sum S R i (c ∷ p) = ap (λ (u : ℕ). c · (S i ⊕ R i) ⊕ u) (dot-sum S
     alg c s r u v = simp ring
 
 -- ---- the roots among the places of a word
-
-unfoldable pub oneIfZero : ℕ → ℕ
-oneIfZero zero = 1
-oneIfZero (suc v) = 0
-
--- for each place, 1 if it is a root
-unfoldable pub rootFlags : List ℕ → ℕ → List ℕ
-rootFlags p zero = []
-rootFlags p (suc k) = oneIfZero (eval p (X k)) ∷ rootFlags p k
 
 pub length-rootFlags : (p : List ℕ) (k : ℕ) → length (rootFlags p k) ≡ k
 unfolding rootFlags

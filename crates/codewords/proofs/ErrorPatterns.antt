@@ -11,26 +11,17 @@ use Rattle.field.proofs.Sum.{zero-⊕}
 use Rattle.field.proofs.Product.{·-lt, zero-·, ·-assoc}
 use Rattle.field.proofs.Powers.{pow-lt, pow-add, pow-mul, ·-nz, beta-primitive, pow-nz, pow-inj}
 use Rattle.codewords.specs.Words.{Octets, valueAt}
+use Rattle.codewords.specs.Locators.{X, weight}
 use Rattle.codewords.proofs.Polynomials.{Pattern, syndromeOf}
 use Rattle.codewords.proofs.Roots.{Away, Proper, Vanish, Solid, vandermonde}
 
 -- ---- a word as a pattern
-
--- the locator of the symbol at the k-th power
-abbrev pub X : ℕ → ℕ
-X k = pow beta k
 
 -- its nonzero symbols, the values times X^m so that the syndromes begin at beta^m
 unfoldable pub patternOf : ℕ → List ℕ → Pattern
 patternOf m [] = []
 patternOf m (zero ∷ w) = patternOf m w
 patternOf m (suc c ∷ w) = (suc c · pow (X (length w)) m, X (length w)) ∷ patternOf m w
-
--- how many symbols are not zero
-unfoldable pub weight : List ℕ → ℕ
-weight [] = 0
-weight (zero ∷ w) = weight w
-weight (suc c ∷ w) = suc (weight w)
 
 -- 1 for a symbol that is not zero
 unfoldable pub oneIf : ℕ → ℕ

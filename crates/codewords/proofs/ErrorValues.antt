@@ -11,9 +11,10 @@ use Rattle.field.proofs.Sum.{⊕-zero, ⊕-octet}
 use Rattle.field.proofs.Product.{·-assoc, ring, ·-one-octet}
 use Rattle.field.proofs.Powers.{·-inverse, no-zero, ⊕-nz}
 use Rattle.codewords.specs.Words.{Octets}
-use Rattle.codewords.proofs.Polynomials.{eval, dot, Pattern, syndromeOf, times, dot-syndrome}
+use Rattle.codewords.specs.Polynomials.{eval, quot, dot}
+use Rattle.codewords.proofs.Polynomials.{Pattern, syndromeOf, times, dot-syndrome}
 use Rattle.codewords.proofs.Roots.{locators, Away, Proper, Rooted, length-locators, rooted-head, eval-lt}
-use Rattle.codewords.proofs.Division.{top, quot, length-quot, eval-quot, quot-octets, top-quot, Zeros, root-count}
+use Rattle.codewords.proofs.Division.{top, length-quot, eval-quot, quot-octets, top-quot, Zeros, root-count}
 use Rattle.codewords.proofs.ShortestRegister.{proper-distinct}
 
 pub data In (e : ℕ × ℕ) : Pattern → Type 0 where

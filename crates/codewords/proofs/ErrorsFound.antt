@@ -10,31 +10,14 @@ use lib.ListN.{length}
 use Rattle.field.specs.Field.{_·_, pow, inverseOf}
 use Rattle.field.proofs.Product.{·-lt}
 use Rattle.codewords.specs.Words.{Octets}
-use Rattle.codewords.proofs.Polynomials.{eval, dot, dot-ext, dot-lt}
-use Rattle.codewords.proofs.Division.{shiftBy, quot, length-quot}
-use Rattle.codewords.proofs.ShortestRegister.{Invariant, start, blend, keep, same, grow}
-use Rattle.codewords.proofs.ErrorPatterns.{X}
+use Rattle.codewords.specs.Polynomials.{eval, quot, dot}
+use Rattle.codewords.specs.Locators.{X}
+use Rattle.codewords.specs.Errors.{RegisterState, next, run, errorIfRoot, errorOf, errorAt, errorWord}
+use Rattle.codewords.proofs.Polynomials.{dot-ext, dot-lt}
+use Rattle.codewords.proofs.Division.{length-quot}
+use Rattle.codewords.proofs.ShortestRegister.{Invariant, start, keep, same, grow}
 
 -- ---- the run
-
--- the length L, the polynomials σ and τ, and the discrepancy at which τ failed
-pub record RegisterState : Type 0 where
-  pub len : ℕ
-  pub sig : List ℕ
-  pub tau : List ℕ
-  pub last : ℕ
-
--- the discrepancy d, and whether the length stays
-unfoldable pub next : ℕ → RegisterState → ℕ → Bool → RegisterState
-next n st zero t = st
-next n st (suc d) true = record { len = st .len; sig = blend (st .last) (suc d) (st .sig) (shiftBy (st .len + st .len - suc n) (st .tau)); tau = st .tau; last = st .last }
-next n st (suc d) false =
-    record { len = suc n - st .len; sig = blend (st .last) (suc d) (shiftBy (suc n - (st .len + st .len)) (st .sig)) (st .tau); tau = st .sig; last = suc d }
-
--- after n syndromes
-unfoldable pub run : (ℕ → ℕ) → ℕ → RegisterState
-run S zero = record { len = 0; sig = 1 ∷ []; tau = 1 ∷ []; last = 1 }
-run S (suc n) = let st : RegisterState = run S n in next n st (dot S (n - st .len) (st .sig)) (ltb n (st .len + st .len))
 
 abbrev Holds : (ℕ → ℕ) → ℕ → RegisterState → Type 0
 Holds S n st = Invariant S n (st .len) (st .sig) (st .tau) (st .last)
@@ -55,24 +38,6 @@ run-invariant S (suc n) =
     next-invariant S n (run S n) (run-invariant S n) (dot S (n - run S n .len) (run S n .sig)) refl (ltb n (run S n .len + run S n .len)) refl
 
 -- ---- the errors
-
--- the value that the quotient gives, if the polynomial is zero at z (v is its value there), else zero
-unfoldable pub errorIfRoot : ℕ → (ℕ → ℕ) → List ℕ → ℕ → ℕ → ℕ
-errorIfRoot zero S σ z zm = (dot S 0 (quot σ z) · inverseOf (eval (quot σ z) z)) · inverseOf zm
-errorIfRoot (suc v) S σ z zm = 0
-
--- the error at the locator z, whose m-th power is zm
-unfoldable pub errorOf : (ℕ → ℕ) → List ℕ → ℕ → ℕ → ℕ
-errorOf S σ z zm = errorIfRoot (eval σ z) S σ z zm
-
--- the error at the k-th power, and the word of those at the powers below k
-unfoldable pub errorAt : (ℕ → ℕ) → List ℕ → ℕ → ℕ → ℕ
-unfolding errorOf
-errorAt S σ m k = errorOf S σ (X k) (pow (X k) m)
-
-unfoldable pub errorWord : (ℕ → ℕ) → List ℕ → ℕ → ℕ → List ℕ
-errorWord S σ m zero = []
-errorWord S σ m (suc k) = errorAt S σ m k ∷ errorWord S σ m k
 
 pub errorIfRoot-zero : (v : ℕ) (S : ℕ → ℕ) (σ : List ℕ) (z zm : ℕ) → v ≢ 0 → errorIfRoot v S σ z zm ≡ 0
 unfolding errorIfRoot

@@ -14,9 +14,10 @@ use Rattle.field.proofs.Sum.{⊕-self}
 use Rattle.field.proofs.Powers.{⊕-nz}
 use Rattle.field.proofs.Conversions.{toConventional-linear, toLine-lt, toConventional-lt, conventional-line, line-conventional, toConventional-zero}
 use Rattle.codewords.specs.Words.{Octets, oneUnless, differing, withFill}
-use Rattle.codewords.proofs.Polynomials.{_⊞_}
+use Rattle.codewords.specs.Polynomials.{_⊞_}
+use Rattle.codewords.specs.Locators.{weight}
 use Rattle.codewords.proofs.Division.{⊞-octets}
-use Rattle.codewords.proofs.ErrorPatterns.{weight, oneIf, oneIf-set, oneIf-clear, weight-cons}
+use Rattle.codewords.proofs.ErrorPatterns.{oneIf, oneIf-set, oneIf-clear, weight-cons}
 
 -- ---- conversion of a word
 

@@ -11,11 +11,12 @@ use Rattle.field.proofs.Sum.{⊕-self, ⊕-zero, ⊕-octet}
 use Rattle.field.proofs.Product.{·-lt, zero-·, ·-zero, ·-assoc, ring, one-·}
 use Rattle.field.proofs.Powers.{pow-suc, pow-lt, ·-nz, ⊕-nz}
 use Rattle.codewords.specs.Words.{Octets, valueAt}
-use Rattle.codewords.proofs.Polynomials.{eval, scaled, length-scaled, dot}
-use Rattle.codewords.proofs.Roots.{byRoot, eval-byRoot, length-byRoot, eval-lt}
+use Rattle.codewords.specs.Polynomials.{eval, scaled, byRoot, dot}
+use Rattle.codewords.specs.Locators.{X, weight, unmarkedPart, timesMarks, erasure}
+use Rattle.codewords.proofs.Polynomials.{length-scaled}
+use Rattle.codewords.proofs.Roots.{eval-byRoot, length-byRoot, eval-lt}
 use Rattle.codewords.proofs.Division.{⊞-octets, scaled-octets, top, top-⊞}
-use Rattle.codewords.proofs.ErrorPatterns.{X, weight, oneIf, oneIf-set, oneIf-clear, weight-cons, swap-pow, X-inj}
-use Rattle.codewords.proofs.DoubtfulSymbols.{unmarkedPart}
+use Rattle.codewords.proofs.ErrorPatterns.{oneIf, oneIf-set, oneIf-clear, weight-cons, swap-pow, X-inj}
 
 -- ---- times X + x
 
@@ -32,15 +33,6 @@ top-byRoot x p h = top-⊞ (0 ∷ p) (scaled x p) (omega (arith, length-scaled x
     up (c ∷ p) h = refl
 
 -- ---- times X + x for each marked place, from the last on
-
-unfoldable pub timesMarks : List ℕ → List ℕ → List ℕ
-timesMarks [] p = p
-timesMarks (zero ∷ d) p = timesMarks d p
-timesMarks (suc x ∷ d) p = byRoot (X (length d)) (timesMarks d p)
-
--- the locator of the marked places
-unfoldable pub erasure : List ℕ → List ℕ
-erasure d = timesMarks d (1 ∷ [])
 
 module _ (p : List ℕ) where
   pub length-timesMarks : (d : List ℕ) → length (timesMarks d p) ≡ weight d + length p

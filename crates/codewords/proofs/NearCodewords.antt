@@ -1,37 +1,22 @@
 -- Codewords by their conventional octets, those near a word, and that two of them lie apart.
 use mathlib.Core.Path.{_≡_, refl, ap₂, _∙_}
 use mathlib.Core.List.{List, [], _∷_}
-use Prim.Native.Nat.{ℕ, zero, suc, _+_, _≤_, _<_}
+use Prim.Native.Nat.{ℕ, zero, suc, _+_, _≤_}
 use native.Mathlib.Omega.{arith}
 use lib.ListN.{length}
 use Rattle.field.specs.Field.{_⊕_}
 use Rattle.field.proofs.Sum.{⊕-zero, ⊕-cancel, eq-of-⊕}
-use Rattle.codewords.specs.Words.{Octets, valueAt}
-use Rattle.codewords.proofs.Polynomials.{_⊞_}
+use Rattle.codewords.specs.Polynomials.{_⊞_}
+use Rattle.codewords.specs.Locators.{X, weight, Code}
 use Rattle.codewords.proofs.Division.{⊞-octets}
 use Rattle.codewords.proofs.WordValues.{length-pair, value-⊞}
-use Rattle.codewords.proofs.ErrorPatterns.{X, weight, distance}
-
--- the words that vanish at N powers of beta from the m-th on
-pub record Code (m N : ℕ) (c : List ℕ) : Type 0 where
-  pub octets : Octets c
-  pub zeros : (j : ℕ) → j < N → valueAt c (X (m + j)) ≡ 0
-
--- the values of r at these points
-unfoldable pub syndromes : ℕ → List ℕ → ℕ → ℕ
-syndromes m r i = valueAt r (X (m + i))
+use Rattle.codewords.proofs.ErrorPatterns.{distance}
 
 pub ⊞-back : (r c : List ℕ) → length r ≡ length c → r ⊞ (r ⊞ c) ≡ c
 unfolding _⊞_
 ⊞-back [] c h = refl
 ⊞-back (a ∷ r) [] h = absurd (omega arith)
 ⊞-back (a ∷ r) (b ∷ c) h = ap₂ {C = List ℕ} (λ (x : ℕ) (y : List ℕ). x ∷ y) (⊕-cancel a b) (⊞-back r c (omega arith))
-
--- c is a codeword of r's length that differs from r in at most s places
-pub record Near (m E s : ℕ) (r c : List ℕ) : Type 0 where
-  pub size : length r ≡ length c
-  pub code : Code m (E + E) c
-  pub close : weight (r ⊞ c) ≤ s
 
 -- ---- two codewords that differ in no more places than there are zeros are equal
 

@@ -10,13 +10,16 @@ use Rattle.field.proofs.Sum.{zero-⊕}
 use Rattle.field.proofs.Product.{·-lt, zero-·, ·-assoc, ·-one-octet}
 use Rattle.field.proofs.Powers.{pow-lt, pow-add, ·-inverse}
 use Rattle.codewords.specs.Words.{Octets, valueAt}
-use Rattle.codewords.proofs.Polynomials.{eval, dot-ext, Pattern, syndromeOf}
+use Rattle.codewords.specs.Polynomials.{eval, quot}
+use Rattle.codewords.specs.Locators.{X, weight}
+use Rattle.codewords.specs.Errors.{errorIfRoot, errorOf, errorAt, errorWord}
+use Rattle.codewords.proofs.Polynomials.{dot-ext, Pattern, syndromeOf}
 use Rattle.codewords.proofs.Roots.{locators, Away, Proper, Rooted, length-locators}
-use Rattle.codewords.proofs.Division.{top, quot, root-count}
+use Rattle.codewords.proofs.Division.{top, root-count}
 use Rattle.codewords.proofs.ShortestRegister.{proper-fresh, proper-distinct, rooted-zeros}
 use Rattle.codewords.proofs.ErrorValues.{In, here, there, in-root, in-length, quot-shape, value-is}
-use Rattle.codewords.proofs.ErrorPatterns.{X, weight, swap-pow, pow-nonzero, X-nz, X-inj}
-use Rattle.codewords.proofs.ErrorsFound.{errorIfRoot, errorOf, errorAt, errorWord, errorIfRoot-zero}
+use Rattle.codewords.proofs.ErrorPatterns.{swap-pow, pow-nonzero, X-nz, X-inj}
+use Rattle.codewords.proofs.ErrorsFound.{errorIfRoot-zero}
 
 -- ---- the pattern of the flagged places; a value may be zero
 

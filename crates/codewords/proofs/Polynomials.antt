@@ -10,25 +10,9 @@ use Rattle.field.specs.Field.{_⊕_, _·_, pow}
 use Rattle.field.proofs.Sum.{⊕-zero, zero-⊕, ⊕-octet}
 use Rattle.field.proofs.Product.{·-lt, zero-·, ·-zero, ring}
 use Rattle.field.proofs.Powers.{pow-suc}
+use Rattle.codewords.specs.Polynomials.{eval, _⊞_, scaled, dot}
 
 -- ---- polynomials
-
--- the value at z
-unfoldable pub eval : List ℕ → ℕ → ℕ
-eval [] z = 0
-eval (c ∷ p) z = c ⊕ z · eval p z
-
--- the sum
-infixl 65 _⊞_
-unfoldable pub _⊞_ : List ℕ → List ℕ → List ℕ
-[] ⊞ q = q
-(a ∷ p) ⊞ [] = a ∷ p
-(a ∷ p) ⊞ (b ∷ q) = (a ⊕ b) ∷ (p ⊞ q)
-
--- c times the polynomial
-unfoldable pub scaled : ℕ → List ℕ → List ℕ
-scaled c [] = []
-scaled c (a ∷ p) = c · a ∷ scaled c p
 
 pub eval-⊞ : (p q : List ℕ) (z : ℕ) → eval (p ⊞ q) z ≡ eval p z ⊕ eval q z
 unfolding eval _⊞_
@@ -59,11 +43,6 @@ length-⊞ (a ∷ p) [] = omega arith
 length-⊞ (a ∷ p) (b ∷ q) = let ih : length (p ⊞ q) ≡ max (length p) (length q) = length-⊞ p q in omega arith
 
 -- ---- the functional
-
--- the coefficients of p against S i, S (i + 1) ..
-unfoldable pub dot : (ℕ → ℕ) → ℕ → List ℕ → ℕ
-dot S i [] = 0
-dot S i (c ∷ p) = c · S i ⊕ dot S (suc i) p
 
 module _ (S : ℕ → ℕ) where
   pub dot-⊞ : (i : ℕ) (p q : List ℕ) → dot S i (p ⊞ q) ≡ dot S i p ⊕ dot S i q

@@ -10,20 +10,21 @@ use Rattle.field.specs.Field.{_⊕_, _·_}
 use Rattle.field.proofs.Sum.{⊕-zero}
 use Rattle.field.proofs.Product.{mod-·, zero-·, ·-assoc, ring, ·-one}
 use Rattle.codewords.specs.Words.{Octets, valueAt}
-use Rattle.codewords.proofs.Polynomials.{eval, _⊞_, scaled, dot, dot-⊞, dot-scaled, dot-shift, dot-ext, Pattern}
-use Rattle.codewords.proofs.Roots.{byRoot, locators, Proper, length-locators}
+use Rattle.codewords.specs.Polynomials.{eval, _⊞_, scaled, byRoot, dot}
+use Rattle.codewords.specs.Locators.{X, weight, syndromes, unmarkedPart, GoodWord, timesMarks, erasure}
+use Rattle.codewords.specs.Errors.{errorWord, oneIfZero, rootFlags, changed, register, product, corrections, Counts}
+use Rattle.codewords.proofs.Polynomials.{dot-⊞, dot-scaled, dot-shift, dot-ext, Pattern}
+use Rattle.codewords.proofs.Roots.{locators, Proper, length-locators}
 use Rattle.codewords.proofs.Division.{⊞-octets, top, root-count}
 use Rattle.codewords.proofs.ShortestRegister.{Invariant, proper-distinct, rooted-zeros}
 use Rattle.codewords.proofs.WordValues.{value-lt, length-pair}
-use Rattle.codewords.proofs.ErrorPatterns.{X, weight, oneIf, oneIf-set, weight-cons}
-use Rattle.codewords.proofs.ErrorsFound.{run-invariant, errorWord}
-use Rattle.codewords.proofs.NearCodewords.{syndromes}
-use Rattle.codewords.proofs.DoubtfulSymbols.{unmarkedPart, GoodWord}
-use Rattle.codewords.proofs.MarkedPlaces.{timesMarks, erasure, length-timesMarks, timesMarks-octets, top-timesMarks, timesMarks-product, ZeroOnlyAtMarks, erasure-zero-only}
+use Rattle.codewords.proofs.ErrorPatterns.{oneIf, oneIf-set, weight-cons}
+use Rattle.codewords.proofs.ErrorsFound.{run-invariant}
+use Rattle.codewords.proofs.MarkedPlaces.{length-timesMarks, timesMarks-octets, top-timesMarks, timesMarks-product, ZeroOnlyAtMarks, erasure-zero-only}
 use Rattle.codewords.proofs.PlacedErrors.{placed, Covers, Roots, length-placed, placed-proper, placed-rooted}
 use Rattle.codewords.proofs.DoubtfulErrors.{candidates, length-candidates, weight-candidates, product-roots}
-use Rattle.codewords.proofs.Corrections.{changed, register, product, corrections, length-corrections, Passes, good-syndromes, good-length, passes-good}
-use Rattle.codewords.proofs.EnoughRoots.{oneIfZero, rootFlags, length-rootFlags, rootFlags-roots, rootFlags-cover, full-right}
+use Rattle.codewords.proofs.Corrections.{length-corrections, Passes, good-syndromes, good-length, passes-good}
+use Rattle.codewords.proofs.EnoughRoots.{length-rootFlags, rootFlags-roots, rootFlags-cover, full-right}
 
 -- ---- pairing with the product is pairing the changed sequence with the register
 
@@ -137,11 +138,6 @@ right-of : (m N : ℕ) (S : ℕ → ℕ) → ((i : ℕ) → S i < 256) → (p : 
     → (k : ℕ) → k ≤ 255 → suc (weight (rootFlags p k)) ≡ length p → (i : ℕ) → i < N → valueAt (errorWord S p m k) (X (m + i)) ≡ S i
 right-of m N S l [] o t ann k h f = absurd (omega arith)
 right-of m N S l (c ∷ p) o t ann k h f = full-right m N S l c p o t (λ i q. ann i (omega arith)) k h (omega arith)
-
--- the test: L is small enough with the marks, and there are as many roots as L and the marks say
-pub record Counts (m E s : ℕ) (d r : List ℕ) : Type 0 where
-  pub light : register m E d r .len + register m E d r .len + weight d ≤ s + s
-  pub full : weight (rootFlags (product m E d r) (length r)) ≡ register m E d r .len + weight d
 
 module _ (m E s : ℕ) (d r : List ℕ) (short : length r ≤ 255) (same : length r ≡ length d) (o : Octets r) (small : s ≤ E) where
   held : Invariant (changed m d r) (E + E - weight d) (register m E d r .len) (register m E d r .sig) (register m E d r .tau) (register m E d r .last)

@@ -11,12 +11,10 @@ use Rattle.field.proofs.Sum.{⊕-self, ⊕-zero, zero-⊕, ⊕-octet}
 use Rattle.field.proofs.Product.{·-lt, zero-·, ·-zero, ·-comm, ring, ·-one-octet}
 use Rattle.field.proofs.Powers.{pow-zero, no-zero, ·-nz, ⊕-nz}
 use Rattle.codewords.specs.Words.{Octets}
-use Rattle.codewords.proofs.Polynomials.{eval, _⊞_, scaled, eval-⊞, eval-scaled, length-scaled, length-⊞, dot, dot-zero, Pattern, syndromeOf, times, dot-syndrome}
+use Rattle.codewords.specs.Polynomials.{eval, scaled, byRoot, dot}
+use Rattle.codewords.proofs.Polynomials.{eval-⊞, eval-scaled, length-scaled, length-⊞, dot-zero, Pattern, syndromeOf, times, dot-syndrome}
 
 -- ---- times X + x
-
-unfoldable pub byRoot : ℕ → List ℕ → List ℕ
-byRoot x p = (0 ∷ p) ⊞ scaled x p
 
 pub eval-byRoot : (x : ℕ) (p : List ℕ) (z : ℕ) → eval (byRoot x p) z ≡ (z ⊕ x) · eval p z
 unfolding byRoot eval

@@ -10,9 +10,10 @@ use Rattle.field.specs.Field.{_⊕_, _·_}
 use Rattle.field.proofs.Product.{ring}
 use Rattle.field.proofs.Powers.{·-nz}
 use Rattle.codewords.specs.Words.{Octets}
-use Rattle.codewords.proofs.Polynomials.{_⊞_, scaled, length-scaled, length-⊞, dot, dot-⊞, dot-scaled, dot-ext, Pattern, syndromeOf}
+use Rattle.codewords.specs.Polynomials.{scaled, shiftBy, blend, dot}
+use Rattle.codewords.proofs.Polynomials.{length-scaled, length-⊞, dot-⊞, dot-scaled, dot-ext, Pattern, syndromeOf}
 use Rattle.codewords.proofs.Roots.{locators, Away, Proper, Rooted, Solid, length-locators, locator, zeros-go-on}
-use Rattle.codewords.proofs.Division.{⊞-octets, scaled-octets, shiftBy, length-shift, dot-shiftBy, top, top-lt, top-⊞, top-scaled, top-shift, Fresh, Distinct, Zeros, root-count}
+use Rattle.codewords.proofs.Division.{⊞-octets, scaled-octets, length-shift, dot-shiftBy, top, top-lt, top-⊞, top-scaled, top-shift, Fresh, Distinct, Zeros, root-count}
 
 -- After n syndromes: σ has degree L and annihilates as far as the n go; τ fails first at L - 1, with b.
 pub record Invariant (S : ℕ → ℕ) (n L : ℕ) (σ τ : List ℕ) (b : ℕ) : Type 0 where
@@ -44,10 +45,6 @@ start S =
       τ-zero = λ i h. absurd (omega arith);
       τ-fail = λ i h. absurd (omega arith);
     }
-
--- b times the one and d times the other
-unfoldable pub blend : ℕ → ℕ → List ℕ → List ℕ → List ℕ
-blend b d p q = scaled b p ⊞ scaled d q
 
 pub dot-blend : (S : ℕ → ℕ) (i b d : ℕ) (p q : List ℕ) → dot S i (blend b d p q) ≡ b · dot S i p ⊕ d · dot S i q
 unfolding blend

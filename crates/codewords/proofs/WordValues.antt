@@ -9,7 +9,8 @@ use Rattle.field.proofs.Sum.{⊕-zero, zero-⊕, ⊕-octet}
 use Rattle.field.proofs.Product.{·-lt, ·-mod, zero-·, ·-zero, ring, ·-one, ·-one-octet}
 use Rattle.field.proofs.Powers.{pow-add}
 use Rattle.codewords.specs.Words.{Octets, valueAt, withFill}
-use Rattle.codewords.proofs.Polynomials.{_⊞_, scaled, length-scaled}
+use Rattle.codewords.specs.Polynomials.{_⊞_, scaled}
+use Rattle.codewords.proofs.Polynomials.{length-scaled}
 
 -- ---- sums and products
 

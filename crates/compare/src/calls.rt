@@ -13,7 +13,7 @@ pub fn encode(e: u32, depth: u32, fill: u32, frame: &[u8], block: &mut [u8]) {
     print::text(b"encode");
     code(e, depth, fill);
     let verdict = reed_solomon::encode(e, depth, fill, frame, &mut *block);
-    print::number(print::verdict(verdict));
+    print::number(refusals::verdict_number(verdict));
     print::buffer(block);
     print::end();
 }
@@ -22,7 +22,7 @@ fn answer(decoded: Decoded) {
     match decoded {
         Decoded::Delivered => print::number(0),
         Decoded::Refused(refusal) => match refusal {
-            WordRefusal::Parameters(p) => print::number(print::parameter(p)),
+            WordRefusal::Parameters(p) => print::number(refusals::parameter_number(p)),
             WordRefusal::NoCodeword(word) => {
                 print::number(10);
                 print::number(word as u64);

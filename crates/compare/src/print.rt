@@ -1,7 +1,5 @@
 // What a line is made of.
 use libc::STDOUT_FILENO;
-use refusals::Parameter;
-use refusals::Verdict;
 
 pub fn text(s: &[u8]) {
     io::write_all(STDOUT_FILENO, s);
@@ -57,26 +55,5 @@ pub fn buffer(s: &[u8]) {
     } else {
         number(n as u64);
         number(digest(s));
-    }
-}
-
-pub fn parameter(p: Parameter) -> u64 {
-    match p {
-        Parameter::Strength => 1,
-        Parameter::Depth => 2,
-        Parameter::Fill => 3,
-        Parameter::Allowance => 4,
-        Parameter::Input => 5,
-        Parameter::Output => 6,
-        Parameter::Rate => 7,
-        Parameter::Tolerance => 8,
-        Parameter::Start => 11,
-    }
-}
-
-pub fn verdict(v: Verdict) -> u64 {
-    match v {
-        Verdict::Accepted => 0,
-        Verdict::Refused(p) => parameter(p),
     }
 }

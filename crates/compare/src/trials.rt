@@ -1,6 +1,6 @@
 // One code: a drawn frame, its block, and that block with several kinds of damage.
 ghost use lib.ListN.{length};
-ghost use Prim.Native.Nat.{_+_, _*_, _≤_, _<_};
+ghost use Prim.Native.Nat.{_+_, _*_, _≤_};
 use crate::calls;
 use crate::damage;
 use crate::damage::Damage;

@@ -1,6 +1,5 @@
 -- The definitions at the worked symbols of document 01: (A) to (E).
 use mathlib.Core.Path.{_≡_, refl}
-use Prim.Native.Nat.{ℕ}
 use Rattle.field.specs.Field.{_⊕_, _·_, shiftAndAdd, timesAlpha, whereSet, beta, pow}
 use Rattle.field.specs.Line.{toLine, toConventional}
 

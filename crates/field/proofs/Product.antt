@@ -1,16 +1,14 @@
 -- Laws of the product: linear on both sides, commutative, associative, one.
-use mathlib.Core.Path.{_≡_, refl, sym, ap, ap₂, _∙_, subst}
-use mathlib.Core.Logic.{_≢_, _⊎_, inl, inr}
-use mathlib.Core.Bool.{Bool, true, false, not}
-use Prim.Native.Nat.{ℕ, zero, suc, _+_, _-_, _*_, _/_, _%_, _^_, _≤_, _<_}
-use native.Mathlib.Nat.{not-suc-le-zero, zero-add, suc-add, mul-zero, mul-suc, add-comm, mod-lt, zero-lt-suc, mod-mod, mod-eq-of-lt}
+use mathlib.Core.Path.{_≡_, refl, sym, ap, ap₂, _∙_}
+use Prim.Native.Nat.{ℕ, zero, suc, _+_, _-_, _*_, _/_, _%_, _^_, _<_}
+use native.Mathlib.Nat.{mod-lt, zero-lt-suc, mod-mod, mod-eq-of-lt}
 use native.Mathlib.Omega.{arith}
 use native.Mathlib.Decide.{decLt}
-use lib.Dec.{T, eqb, eqb→eq, eqb-refl, T-not}
+use lib.Dec.{T, eqb, eqb→eq}
 use lib.Pow.{field, mod-mod-pow}
-use Rattle.field.specs.Field.{_⊕_, whereSet, timesAlpha, shiftAndAdd, _·_, pow, inverseOf, alpha, beta}
-use Rattle.field.proofs.Below.{both, both-left, both-right, allBelow, at-below}
-use Rattle.field.proofs.Sum.{⊕-assoc, ⊕-comm, ⊕-left-comm, ⊕-self, ⊕-zero, zero-⊕, ⊕-cancel, ⊕-ac, ⊕-norm, ⊕-swap, ⊕-octet, ⊕-mod, ⊕-shr, ⊕-dbl, ⊕-above, eq-of-⊕, IsBit, b0, b1, bit-of}
+use Rattle.field.specs.Field.{_⊕_, whereSet, timesAlpha, shiftAndAdd, _·_}
+use Rattle.field.proofs.Below.{allBelow, at-below}
+use Rattle.field.proofs.Sum.{⊕-self, ⊕-zero, ⊕-norm, ⊕-swap, ⊕-octet, ⊕-mod, ⊕-shr, ⊕-dbl, ⊕-above, IsBit, b0, b1, bit-of}
 
 -- ---- times alpha is linear
 

@@ -1,15 +1,14 @@
 -- What the marker test answers after its checks of parameters: refused as they refused, else as the wrong bits decide.
 use mathlib.Core.Path.{_≡_, refl}
-use mathlib.Core.Logic.{_≢_, inl, inr, ⊎-elim}
+use mathlib.Core.Logic.{inl, inr, ⊎-elim}
 use mathlib.Core.List.{List, [], _∷_}
 use Prim.Native.Nat.{ℕ, _≤_, _<_}
 use native.Mathlib.Omega.{arith}
 use lib.ListN.{length}
 use Rattle.refusals.specs.Order.{FirstOf}
-use Rattle.refusals.specs.Numbers.{parameterNumber, verdictNumber}
+use Rattle.refusals.specs.Numbers.{verdictNumber}
 use Rattle.refusals.specs.Calls.{marker, markerParameters, markerOrder}
 use Rattle.refusals.specs.declared.Parameter.{Parameter}
-use Rattle.refusals.specs.declared.Parameter.the-variants.{Strength, Depth, Fill, Allowance, Input, Output, Rate, Tolerance, Start}
 use Rattle.refusals.specs.declared.Verdict.{Verdict}
 use Rattle.refusals.specs.declared.Verdict.the-variants as verdict
 use Rattle.refusals.specs.declared.MarkerRefusal.the-variants as refusal

@@ -13,9 +13,11 @@ use Rattle.field.proofs.Sum.{⊕-zero}
 use Rattle.field.proofs.Product.{·-zero}
 use Rattle.field.proofs.Conversions.{toLine-linear, toConventional-linear, conventional-line}
 use Rattle.codewords.specs.Words.{Octets, Codeword, withFill}
-use Rattle.codewords.proofs.Polynomials.{_⊞_, scaled, length-scaled}
+use Rattle.codewords.specs.Polynomials.{_⊞_, scaled}
+use Rattle.codewords.specs.Locators.{Generator}
+use Rattle.codewords.proofs.Polynomials.{length-scaled}
 use Rattle.codewords.proofs.WordValues.{zeros-octets, length-snoc}
-use Rattle.codewords.proofs.Checks.{Generator, push, checksFrom, checks, length-push, length-checks, checks-octets}
+use Rattle.codewords.proofs.Checks.{push, checksFrom, checks, length-push, length-checks, checks-octets}
 use Rattle.codewords.proofs.LineWords.{conversion-++}
 use Rattle.codewords.proofs.Codewords.{encoded-codeword}
 use Rattle.reed_solomon.specs.Blocks.{sentFrom}

@@ -17,7 +17,7 @@ use Rattle.field.proofs.Below.{allBelow, at-below}
 use Rattle.field.proofs.Sum.{⊕-is, ⊕-assoc, ⊕-zero, zero-⊕}
 use Rattle.field.proofs.Product.{⊕-·, zero-·}
 use Rattle.field.proofs.Conversions.{toLine-linear, toLine-lt, toConventional-linear, toConventional-zero}
-use Rattle.codewords.proofs.Polynomials.{_⊞_}
+use Rattle.codewords.specs.Polynomials.{_⊞_}
 use Rattle.codewords.proofs.WordValues.{length-pair, length-snoc}
 use Rattle.refusals.specs.Order.{OneOf}
 use Rattle.refusals.specs.Sizes.{strengths}

@@ -5,8 +5,8 @@ use Prim.Native.Nat.{ℕ, zero, suc, _+_, _-_, _*_, _/_, _%_, _^_, _<_}
 use lib.ListN.{length, take, getD, replicate}
 use Rattle.field.specs.Field.{_⊕_, _·_, whereSet}
 use Rattle.field.specs.Line.{toLine, toConventional}
-use Rattle.codewords.proofs.Polynomials.{_⊞_}
-use Rattle.codewords.proofs.Checks.{Generator}
+use Rattle.codewords.specs.Polynomials.{_⊞_}
+use Rattle.codewords.specs.Locators.{Generator}
 
 -- What a feedback octet on the line adds to each octet of a row: its product with the generator, on the line.
 abbrev pub product : ℕ → ℕ → ℕ

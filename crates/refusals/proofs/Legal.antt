@@ -1,13 +1,12 @@
 -- What legal parameters say of the numbers.
-use mathlib.Core.Path.{_≡_, refl, sym, ap, _∙_}
-use mathlib.Core.Logic.{_≢_, _⊎_, inl, inr}
+use mathlib.Core.Path.{_≡_}
+use mathlib.Core.Logic.{_≢_, inl, inr}
 use mathlib.Core.List.{List, [], _∷_}
-use Prim.Native.Nat.{ℕ, _-_, _≤_, _<_}
+use Prim.Native.Nat.{ℕ, _≤_, _<_}
 use native.Mathlib.Omega.{arith}
-use native.Mathlib.Decide.{ℕ-discrete}
 use Rattle.refusals.specs.Order.{FirstOf, OneOf}
 use Rattle.refusals.specs.Sizes.{strengths, depths, rates, information}
-use Rattle.refusals.specs.Calls.{wordParameters}
+use Rattle.refusals.specs.Calls.{wordParameters, allowedParameters}
 use Rattle.refusals.proofs.Orders.{Numbered, Clear, accepted-clear, one-of}
 
 -- The least and the largest number of a list bound every one of it.
@@ -85,6 +84,9 @@ legal-words e i q clear =
 -- The numbers of the lists are all refusals.
 pub word-numbers : (e i q : ℕ) → Numbered (wordParameters e i q)
 word-numbers e i q = (omega arith, (omega arith, (omega arith, tt)))
+
+pub allowed-numbers : (e i q s : ℕ) → Numbered (allowedParameters e i q s)
+allowed-numbers e i q s = (omega arith, (omega arith, (omega arith, (omega arith, tt))))
 
 pub accepted-words : (e i q : ℕ) → FirstOf (wordParameters e i q) 0 → LegalWords e i q
 accepted-words e i q f = legal-words e i q (accepted-clear (wordParameters e i q) (word-numbers e i q) f)

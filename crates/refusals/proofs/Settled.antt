@@ -3,16 +3,16 @@ use mathlib.Core.Path.{_≡_, refl, sym, ap, _∙_}
 use mathlib.Core.Bool.{Bool, true, false}
 use mathlib.Core.List.{List, [], _∷_}
 use Prim.Native.Nat.{ℕ}
-use native.Mathlib.Omega.{arith}
 use lib.ListN.{getD}
 use Rattle.refusals.specs.Order.{Check, FirstOf, OneOf, Tells}
 use Rattle.refusals.specs.Sizes.{strengths}
-use Rattle.refusals.specs.Numbers.{parameterNumber, verdictNumber}
+use Rattle.refusals.specs.Numbers.{parameterNumber, verdictNumber, markerNumber}
 use Rattle.refusals.specs.Calls.{encodeOrder, decodeParameters, randomiseOrder, convolveOrder, markerParameters, searchOrder, transmitOrder, receiveParameters}
 use Rattle.refusals.specs.declared.Parameter.{Parameter}
 use Rattle.refusals.specs.declared.Parameter.the-variants.{Strength, Depth, Fill, Allowance, Input, Output, Rate, Tolerance, Start}
 use Rattle.refusals.specs.declared.Verdict.{Verdict}
 use Rattle.refusals.specs.declared.Verdict.the-variants.{Accepted, Refused}
+use Rattle.refusals.specs.declared.MarkerRefusal.{MarkerRefusal}
 use Rattle.refusals.proofs.Orders.{first-unique}
 
 -- ---- a verdict is known by its number
@@ -83,3 +83,15 @@ module _ (v w : Verdict) where
 
   pub search-parameters-settled : (t stream from : ℕ) → Settled (searchOrder t stream from)
   search-parameters-settled t stream from = verdict-settled (searchOrder t stream from) v w
+
+-- ---- so is each number
+
+module _ (m n : ℕ) where
+  pub parameter-number-settled : (p : Parameter) → m ≡ parameterNumber p → n ≡ parameterNumber p → m ≡ n
+  parameter-number-settled p a b = a ∙ sym b
+
+  pub verdict-number-settled : (v : Verdict) → m ≡ verdictNumber v → n ≡ verdictNumber v → m ≡ n
+  verdict-number-settled v a b = a ∙ sym b
+
+  pub marker-number-settled : (r : MarkerRefusal) → m ≡ markerNumber r → n ≡ markerNumber r → m ≡ n
+  marker-number-settled r a b = a ∙ sym b

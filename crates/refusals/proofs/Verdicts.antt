@@ -1,18 +1,18 @@
 -- How a call answers its order: by the verdict on checks 1 to 3, then by what comes after them.
-use mathlib.Core.Path.{_≡_, refl, sym, ap, _∙_, subst}
+use mathlib.Core.Path.{_≡_, refl, subst}
 use mathlib.Core.Logic.{_≢_, _⊎_, inl, inr, ⊎-elim}
-use mathlib.Core.List.{List, [], _∷_, _++_}
+use mathlib.Core.List.{List, [], _∷_}
 use Prim.Native.Nat.{ℕ, _<_}
 use native.Mathlib.Omega.{arith}
 use Rattle.refusals.specs.Order.{Check, FirstOf}
 use Rattle.refusals.specs.Numbers.{parameterNumber, verdictNumber}
-use Rattle.refusals.specs.Calls.{wordParameters, input, output}
+use Rattle.refusals.specs.Calls.{wordParameters, allowedParameters, allowance, input, output}
 use Rattle.refusals.specs.declared.Parameter.{Parameter}
 use Rattle.refusals.specs.declared.Parameter.the-variants.{Strength, Depth, Fill, Allowance, Input, Output, Rate, Tolerance, Start}
 use Rattle.refusals.specs.declared.Verdict.{Verdict}
 use Rattle.refusals.specs.declared.Verdict.the-variants.{Accepted, Refused}
-use Rattle.refusals.proofs.Legal.{word-numbers}
-use Rattle.refusals.proofs.Orders.{Begins, first-stops, first-passes}
+use Rattle.refusals.proofs.Legal.{word-numbers, allowed-numbers}
+use Rattle.refusals.proofs.Orders.{Begins, first-stops, first-passes, first-accepts}
 
 -- Parameters are refused by 1 to 8 and by 11, so by neither 0, which is accepted, nor 9 nor 10, which are not about parameters.
 pub parameter-number : (p : Parameter) → ((0 < parameterNumber p) × (parameterNumber p < 9)) ⊎ (parameterNumber p ≡ 11)
@@ -48,6 +48,13 @@ stopped rest front v p e f =
 -- Checks 1, 2 and 3 passed: what comes after them decides.
 pub after-words : {rest : Type 0} (e i q n : ℕ) → FirstOf (wordParameters e i q) 0 → rest → Begins (wordParameters e i q) n rest
 after-words e i q n f g = first-passes (wordParameters e i q) n (word-numbers e i q) f g
+
+-- So with check 4; and then checks 1, 2 and 3 have passed.
+pub after-allowance : {rest : Type 0} (e i q s n : ℕ) → FirstOf (allowedParameters e i q s) 0 → rest → Begins (allowedParameters e i q s) n rest
+after-allowance e i q s n f g = first-passes (allowedParameters e i q s) n (allowed-numbers e i q s) f g
+
+pub allowed-words : (e i q s : ℕ) → FirstOf (allowedParameters e i q s) 0 → FirstOf (wordParameters e i q) 0
+allowed-words e i q s f = first-accepts (FirstOf (allowance e s ∷ []) 0) (wordParameters e i q) (word-numbers e i q) f
 
 -- The lengths that were computed are those required.
 pub same-lengths : (a b c d given out n : ℕ) → a ≡ c → b ≡ d → FirstOf (input given a ∷ output out b ∷ []) n → FirstOf (input given c ∷ output out d ∷ []) n

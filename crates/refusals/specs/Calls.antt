@@ -47,6 +47,9 @@ start from stream = (11, 8 * stream < from)
 abbrev pub wordParameters : ℕ → ℕ → ℕ → List Check
 wordParameters e i q = strength e ∷ depth i ∷ fill e q ∷ []
 
+abbrev pub allowedParameters : ℕ → ℕ → ℕ → ℕ → List Check
+allowedParameters e i q s = strength e ∷ depth i ∷ fill e q ∷ allowance e s ∷ []
+
 abbrev pub encodeOrder : ℕ → ℕ → ℕ → ℕ → ℕ → List Check
 encodeOrder e i q frame block = strength e ∷ depth i ∷ fill e q ∷ input frame (frameLength e i q) ∷ output block (blockLength i q) ∷ []
 

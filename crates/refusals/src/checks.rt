@@ -1,11 +1,11 @@
 // Each call's checks of parameters and lengths, in the order of document 01.
 ghost use mathlib.Core.Path.{_≡_};
 ghost use mathlib.Core.List.{[], _∷_, _++_};
-ghost use Prim.Native.Nat.{_+_, _*_, _≤_, _<_};
+ghost use Prim.Native.Nat.{_+_, _*_, _≤_};
 ghost use Rattle.refusals.specs.Order.{FirstOf, OneOf, Tells};
-ghost use Rattle.refusals.specs.Sizes.{strengths, depths, rates, information, frameLength, blockLength, symbolCount, octetsFor};
+ghost use Rattle.refusals.specs.Sizes.{strengths, depths, rates, frameLength, blockLength, symbolCount};
 ghost use Rattle.refusals.specs.Numbers.{verdictNumber};
-ghost use Rattle.refusals.specs.Calls.{input, output, wordParameters, encodeOrder, decodeParameters, randomiseOrder, convolveOrder, markerParameters, searchOrder, transmitOrder, receiveParameters};
+ghost use Rattle.refusals.specs.Calls.{input, output, wordParameters, allowedParameters, encodeOrder, decodeParameters, randomiseOrder, convolveOrder, markerParameters, searchOrder, transmitOrder, receiveParameters};
 use crate::Parameter;
 use crate::Verdict;
 
@@ -129,6 +129,20 @@ pub fn transmit_parameters(e: u32, depth: u32, fill: u32, frame: usize, marked: 
     outgoing(e, depth, fill, frame, marked, 4)
 }
 
+// Checks 1 to 4, with which every call that takes a block begins.
+fn allowed_parameters(e: u32, depth: u32, fill: u32, s: u32) -> Verdict
+    ensures { λ r. ⌜ FirstOf (allowedParameters e depth fill s) (verdictNumber r) ⌝ }
+{
+    let word = word_parameters(e, depth, fill);
+    if let Verdict::Refused(p) = word {
+        return Verdict::Refused(p);
+    }
+    if s > e {
+        return Verdict::Refused(Parameter::Allowance);
+    }
+    Verdict::Accepted
+}
+
 pub fn decode_parameters(
     e: u32,
     depth: u32,
@@ -139,12 +153,9 @@ pub fn decode_parameters(
 ) -> Verdict
     ensures { λ r. ⌜ FirstOf (decodeParameters e depth fill s block frame) (verdictNumber r) ⌝ }
 {
-    let word = word_parameters(e, depth, fill);
-    if let Verdict::Refused(p) = word {
+    let allowed = allowed_parameters(e, depth, fill, s);
+    if let Verdict::Refused(p) = allowed {
         return Verdict::Refused(p);
-    }
-    if s > e {
-        return Verdict::Refused(Parameter::Allowance);
     }
     let required = block_length(e, depth, fill);
     lengths(block, required, frame, frame_length(e, depth, fill))
@@ -161,12 +172,9 @@ pub fn receive_parameters(
 ) -> Verdict
     ensures { λ r. ⌜ FirstOf (receiveParameters e depth fill s tolerance marked frame) (verdictNumber r) ⌝ }
 {
-    let word = word_parameters(e, depth, fill);
-    if let Verdict::Refused(p) = word {
+    let allowed = allowed_parameters(e, depth, fill, s);
+    if let Verdict::Refused(p) = allowed {
         return Verdict::Refused(p);
-    }
-    if s > e {
-        return Verdict::Refused(Parameter::Allowance);
     }
     if tolerance > 3 {
         return Verdict::Refused(Parameter::Tolerance);

@@ -1,5 +1,6 @@
-// The refusals of document 01: their names, and the checks of parameters and lengths that the calls share.
+// The refusals of document 01: their names and numbers, and the checks of parameters and lengths that the calls share.
 mod checks;
+mod numbers;
 
 pub use checks::convolve_parameters;
 pub use checks::decode_parameters;
@@ -10,6 +11,9 @@ pub use checks::receive_parameters;
 pub use checks::search_parameters;
 pub use checks::strength_legal;
 pub use checks::transmit_parameters;
+pub use numbers::marker_number;
+pub use numbers::parameter_number;
+pub use numbers::verdict_number;
 
 // A parameter or a length that is not legal.
 pub enum Parameter {

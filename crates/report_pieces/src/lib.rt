@@ -1,39 +1,11 @@
 // What the report writes of each piece of its input: the line of a whole block, or the closing lines.
 ghost use mathlib.Core.Path.{_≡_};
-ghost use Rattle.refusals.specs.Numbers.{parameterNumber, markerNumber};
 ghost use Rattle.report_pieces.specs.Pieces.{refusedLine, answeredLine, BlockReported, PieceOutcome};
 use chain::Received;
 use chain::Stage;
-use refusals::MarkerRefusal;
-use refusals::Parameter;
 use refusals::WordRefusal;
 use report_lines::ReportLine;
 use report_lines::Text;
-
-fn parameter_number(p: Parameter) -> u64
-    ensures { λ r. ⌜ r ≡ parameterNumber p ⌝ }
-{
-    match p {
-        Parameter::Strength => 1,
-        Parameter::Depth => 2,
-        Parameter::Fill => 3,
-        Parameter::Allowance => 4,
-        Parameter::Input => 5,
-        Parameter::Output => 6,
-        Parameter::Rate => 7,
-        Parameter::Tolerance => 8,
-        Parameter::Start => 11,
-    }
-}
-
-fn marker_number(refusal: MarkerRefusal) -> u64
-    ensures { λ r. ⌜ r ≡ markerNumber refusal ⌝ }
-{
-    match refusal {
-        MarkerRefusal::Parameters(p) => parameter_number(p),
-        MarkerRefusal::WrongBits(_) => 9,
-    }
-}
 
 fn refused_line(block: u64, stage: Stage) -> ReportLine
     ensures { λ r. ⌜ r ≡ refusedLine block stage ⌝ }
@@ -41,16 +13,16 @@ fn refused_line(block: u64, stage: Stage) -> ReportLine
     match stage {
         Stage::Parameters(p) => ReportLine::Refused {
             block,
-            number: parameter_number(p),
+            number: refusals::parameter_number(p),
         },
         Stage::Marker(refusal) => ReportLine::Refused {
             block,
-            number: marker_number(refusal),
+            number: refusals::marker_number(refusal),
         },
         Stage::Word(refusal) => match refusal {
             WordRefusal::Parameters(p) => ReportLine::Refused {
                 block,
-                number: parameter_number(p),
+                number: refusals::parameter_number(p),
             },
             WordRefusal::NoCodeword(w) => {
                 let word = w as u64;

@@ -16,7 +16,7 @@ pub fn encode(e: u32, depth: u32, fill: u32, frame: &[u8], block: &mut [u8]) {
     print::text(b"encode");
     code(e, depth, fill);
     let verdict = reed_solomon::encode(e, depth, fill, frame, &mut *block);
-    print::number(print::verdict(verdict));
+    print::verdict(verdict);
     print::buffer(block);
     print::end();
 }
@@ -25,7 +25,7 @@ fn answer(decoded: Decoded) {
     match decoded {
         Decoded::Delivered => print::number(0),
         Decoded::Refused(refusal) => match refusal {
-            WordRefusal::Parameters(p) => print::number(print::parameter(p)),
+            WordRefusal::Parameters(p) => print::number(refusals::parameter_number(p)),
             WordRefusal::NoCodeword(word) => {
                 print::number(10);
                 print::number(word as u64);
@@ -61,7 +61,7 @@ pub fn transmit(e: u32, depth: u32, fill: u32, randomised: bool, frame: &[u8], m
     code(e, depth, fill);
     flag(randomised);
     let verdict = chain::transmit(e, depth, fill, randomised, frame, &mut *marked);
-    print::number(print::verdict(verdict));
+    print::verdict(verdict);
     print::buffer(marked);
     print::end();
 }
@@ -75,19 +75,19 @@ fn stage(refused: Stage) {
     match refused {
         Stage::Parameters(p) => {
             print::text(b" parameters");
-            number_and_value(print::parameter(p), 0);
+            number_and_value(refusals::parameter_number(p), 0);
         }
         Stage::Marker(refusal) => {
             print::text(b" marker");
             match refusal {
-                MarkerRefusal::Parameters(p) => number_and_value(print::parameter(p), 0),
+                MarkerRefusal::Parameters(p) => number_and_value(refusals::parameter_number(p), 0),
                 MarkerRefusal::WrongBits(wrong) => number_and_value(9, wrong),
             }
         }
         Stage::Word(refusal) => {
             print::text(b" word");
             match refusal {
-                WordRefusal::Parameters(p) => number_and_value(print::parameter(p), 0),
+                WordRefusal::Parameters(p) => number_and_value(refusals::parameter_number(p), 0),
                 WordRefusal::NoCodeword(word) => number_and_value(10, word),
             }
         }

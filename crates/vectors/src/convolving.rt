@@ -11,7 +11,7 @@ fn coded(rate: u32, octets: &[u8], symbols: &mut [u8]) {
             print::number(0);
             print::number(count as u64);
         }
-        Convolved::Refused(p) => print::number(print::parameter(p)),
+        Convolved::Refused(p) => print::number(refusals::parameter_number(p)),
     }
     print::buffer(symbols);
     print::end();

@@ -6,18 +6,10 @@ use crate::print;
 // Encode and transmit, decode and receive, with lengths that are right but for what is added to them.
 fn all_four(e: u32, depth: u32, fill: u32, s: u32, tolerance: u32, frame: usize, block: usize) {
     print::text(b"limits");
-    print::number(print::verdict(refusals::encode_parameters(e, depth, fill, frame, block)));
-    print::number(print::verdict(refusals::transmit_parameters(e, depth, fill, frame, block)));
-    print::number(print::verdict(refusals::decode_parameters(e, depth, fill, s, block, frame)));
-    print::number(print::verdict(refusals::receive_parameters(
-        e,
-        depth,
-        fill,
-        s,
-        tolerance,
-        block,
-        frame,
-    )));
+    print::verdict(refusals::encode_parameters(e, depth, fill, frame, block));
+    print::verdict(refusals::transmit_parameters(e, depth, fill, frame, block));
+    print::verdict(refusals::decode_parameters(e, depth, fill, s, block, frame));
+    print::verdict(refusals::receive_parameters(e, depth, fill, s, tolerance, block, frame));
     print::end();
     if frame <= 2048 {
         if block <= 2304 {

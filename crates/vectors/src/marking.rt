@@ -12,7 +12,7 @@ fn tested(tolerance: u32, octets: &[u8]) {
             print::number(wrong as u64);
         }
         Tested::Refused(refusal) => match refusal {
-            MarkerRefusal::Parameters(p) => print::number(print::parameter(p)),
+            MarkerRefusal::Parameters(p) => print::number(refusals::parameter_number(p)),
             MarkerRefusal::WrongBits(wrong) => {
                 print::number(9);
                 print::number(wrong as u64);
@@ -60,7 +60,7 @@ fn searched(tolerance: u32, stream: &[u8], start: u64, budget: u64) {
         }
         Searched::Refused(p) => {
             print::text(b" refused");
-            print::number(print::parameter(p));
+            print::number(refusals::parameter_number(p));
         }
     }
     print::end();

@@ -39,10 +39,10 @@ fn contents() {
 fn block(octets: &mut [u8]) {
     print::fill(7, &mut *octets);
     print::text(b"randomise");
-    print::number(print::verdict(randomiser::randomise(&mut *octets)));
+    print::verdict(randomiser::randomise(&mut *octets));
     print::buffer(octets);
     print::text(b" twice");
-    print::number(print::verdict(randomiser::randomise(&mut *octets)));
+    print::verdict(randomiser::randomise(&mut *octets));
     print::buffer(octets);
     print::end();
 }

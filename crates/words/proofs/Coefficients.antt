@@ -12,10 +12,8 @@ use lib.Bits.{bitXor}
 use Rattle.field.specs.Field.{_⊕_, _·_}
 use Rattle.field.proofs.Sum.{⊕-is, ⊕-assoc, ⊕-zero, zero-⊕}
 use Rattle.field.proofs.Product.{·-zero, zero-·}
-use Rattle.codewords.proofs.Polynomials.{eval, _⊞_, scaled, dot}
-use Rattle.codewords.proofs.Division.{shiftBy, quot}
-use Rattle.codewords.proofs.ShortestRegister.{blend}
-use Rattle.codewords.proofs.Roots.{byRoot, length-byRoot}
+use Rattle.codewords.specs.Polynomials.{eval, _⊞_, scaled, shiftBy, byRoot, blend, quot, dot}
+use Rattle.codewords.proofs.Roots.{length-byRoot}
 use Rattle.words.specs.Working.{Filled, Same, terms, blendedAt, byRootAt, windowed}
 use Rattle.words.proofs.Arrays.{sum-turn, zero-at}
 

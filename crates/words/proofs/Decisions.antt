@@ -10,17 +10,18 @@ use lib.Seq.{getD-take, ext-getD, length-take-le}
 use Rattle.field.specs.Field.{_⊕_, _·_, pow, beta, inverseOf}
 use Rattle.field.proofs.Sum.{⊕-zero}
 use Rattle.codewords.specs.Words.{Octets}
-use Rattle.codewords.proofs.Polynomials.{_⊞_, eval, dot, dot-ext}
-use Rattle.codewords.proofs.Division.{quot}
+use Rattle.codewords.specs.Polynomials.{eval, _⊞_, quot, dot}
+use Rattle.codewords.specs.Locators.{X, weight, Code, syndromes, unmarkedPart, GoodWord, erasure}
+use Rattle.codewords.specs.Errors.{RegisterState, run, errorIfRoot, errorOf, errorAt, errorWord, oneIfZero, rootFlags, changed, register, product, corrections, Counts}
+use Rattle.codewords.proofs.Polynomials.{dot-ext}
 use Rattle.codewords.proofs.WordValues.{length-pair}
-use Rattle.codewords.proofs.ErrorPatterns.{X, weight, swap-pow}
-use Rattle.codewords.proofs.NearCodewords.{Code, syndromes, ⊞-back}
-use Rattle.codewords.proofs.ErrorsFound.{RegisterState, run, run-invariant, run-ext, errorIfRoot, errorOf, errorAt, errorWord, errorWord-ext}
-use Rattle.codewords.proofs.DoubtfulSymbols.{unmarkedPart, unmarkedPart-all, GoodWord}
-use Rattle.codewords.proofs.MarkedPlaces.{erasure, length-timesMarks, length-erasure}
-use Rattle.codewords.proofs.Corrections.{changed, register, product, corrections, length-corrections, good-length, good-errors}
-use Rattle.codewords.proofs.EnoughRoots.{oneIfZero, rootFlags}
-use Rattle.codewords.proofs.RootCount.{Counts, counts-good, good-counts}
+use Rattle.codewords.proofs.ErrorPatterns.{swap-pow}
+use Rattle.codewords.proofs.NearCodewords.{⊞-back}
+use Rattle.codewords.proofs.ErrorsFound.{run-invariant, run-ext, errorWord-ext}
+use Rattle.codewords.proofs.DoubtfulSymbols.{unmarkedPart-all}
+use Rattle.codewords.proofs.MarkedPlaces.{length-timesMarks, length-erasure}
+use Rattle.codewords.proofs.Corrections.{length-corrections, good-length, good-errors}
+use Rattle.codewords.proofs.RootCount.{counts-good, good-counts}
 use Rattle.words.specs.Working.{Filled, Same, terms, HoldsProduct, HoldsChanged, HoldsPlaces, Decided}
 use Rattle.words.proofs.Coefficients.{at-⊞, dot-same, eval-same, quot-same, take-same}
 

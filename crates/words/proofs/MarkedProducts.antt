@@ -8,11 +8,12 @@ use native.Mathlib.Numerals.{add-one}
 use native.Mathlib.Omega.{arith}
 use lib.ListN.{length, getD, take, drop, length-drop, drop-of-length-le}
 use lib.Seq.{drop-cons, getD-take, length-take-le}
-use Rattle.codewords.proofs.Polynomials.{dot}
-use Rattle.codewords.proofs.Roots.{byRoot}
-use Rattle.codewords.proofs.ErrorPatterns.{X, weight, oneIf, weight-cons}
-use Rattle.codewords.proofs.ErrorsFound.{RegisterState, run, run-invariant, run-ext}
-use Rattle.codewords.proofs.MarkedPlaces.{timesMarks, erasure, length-timesMarks, length-erasure}
+use Rattle.codewords.specs.Polynomials.{byRoot, dot}
+use Rattle.codewords.specs.Locators.{X, weight, timesMarks, erasure}
+use Rattle.codewords.specs.Errors.{RegisterState, run}
+use Rattle.codewords.proofs.ErrorPatterns.{oneIf, weight-cons}
+use Rattle.codewords.proofs.ErrorsFound.{run-invariant, run-ext}
+use Rattle.codewords.proofs.MarkedPlaces.{length-timesMarks, length-erasure}
 use Rattle.words.specs.Working.{Filled, Same, terms, byRootAt, windowed, HoldsRegister, HoldsProduct, HoldsChanged}
 use Rattle.words.proofs.Coefficients.{dot-same, take-same, byRoot-same}
 

@@ -10,12 +10,12 @@ use Rattle.field.specs.Field.{_⊕_}
 use Rattle.field.specs.Line.{toLine, toConventional}
 use Rattle.refusals.proofs.Legal.{strength-bounds}
 use Rattle.codewords.specs.Words.{Octets, differing, withFill, Good}
-use Rattle.codewords.proofs.Polynomials.{_⊞_}
+use Rattle.codewords.specs.Polynomials.{_⊞_}
+use Rattle.codewords.specs.Locators.{weight, Near, unmarkedPart, GoodWord}
 use Rattle.codewords.proofs.Division.{⊞-octets}
 use Rattle.codewords.proofs.WordValues.{length-pair}
-use Rattle.codewords.proofs.ErrorPatterns.{weight}
-use Rattle.codewords.proofs.NearCodewords.{Near, ⊞-back}
-use Rattle.codewords.proofs.DoubtfulSymbols.{unmarkedPart, unmarkedPart-all, GoodWord, good-near, near-good}
+use Rattle.codewords.proofs.NearCodewords.{⊞-back}
+use Rattle.codewords.proofs.DoubtfulSymbols.{unmarkedPart-all, good-near, near-good}
 use Rattle.codewords.proofs.LineWords.{conversion-octets, line-octets, back-to-conventional, conversion-⊞, differing-front, differing-weight}
 use Rattle.codewords.proofs.Codewords.{good-filled, good-sent, sent-good}
 use Rattle.words.specs.Outcome.{LegalWord, fillOf, repaired, WordOutcome}

@@ -8,11 +8,12 @@ use native.Mathlib.Decide.{ℕ-discrete}
 use lib.ListN.{length, getD, take, set, length-set, replicate}
 use lib.Seq.{getD-set-same, getD-set-other}
 use Rattle.field.specs.Field.{_·_, pow, inverseOf}
-use Rattle.codewords.proofs.Polynomials.{eval, dot}
-use Rattle.codewords.proofs.Division.{quot, length-quot}
-use Rattle.codewords.proofs.ErrorPatterns.{X, weight, oneIf, weight-cons}
-use Rattle.codewords.proofs.ErrorsFound.{errorIfRoot, errorOf, errorIfRoot-zero}
-use Rattle.codewords.proofs.EnoughRoots.{oneIfZero, rootFlags}
+use Rattle.codewords.specs.Polynomials.{eval, quot, dot}
+use Rattle.codewords.specs.Locators.{X, weight}
+use Rattle.codewords.specs.Errors.{errorIfRoot, errorOf, oneIfZero, rootFlags}
+use Rattle.codewords.proofs.Division.{length-quot}
+use Rattle.codewords.proofs.ErrorPatterns.{oneIf, weight-cons}
+use Rattle.codewords.proofs.ErrorsFound.{errorIfRoot-zero}
 use Rattle.words.specs.Working.{Same, terms, HoldsPlace, HoldsPlaces}
 use Rattle.words.proofs.Arrays.{zero-at}
 use Rattle.words.proofs.Coefficients.{dot-same, eval-same, take-same}

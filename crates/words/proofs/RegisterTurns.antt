@@ -9,10 +9,9 @@ use native.Mathlib.Omega.{arith}
 use lib.ListN.{length, getD, take, drop, replicate}
 use borrow.Author.Tests.{lt-ltb, le-ltb}
 use lib.Dec.{ltb}
-use Rattle.codewords.proofs.Polynomials.{dot}
-use Rattle.codewords.proofs.Division.{shiftBy}
-use Rattle.codewords.proofs.ShortestRegister.{blend}
-use Rattle.codewords.proofs.ErrorsFound.{RegisterState, run, next, run-invariant}
+use Rattle.codewords.specs.Polynomials.{shiftBy, blend, dot}
+use Rattle.codewords.specs.Errors.{RegisterState, next, run}
+use Rattle.codewords.proofs.ErrorsFound.{run-invariant}
 use Rattle.words.specs.Working.{Filled, Same, terms, blendedAt, HoldsRegister}
 use Rattle.words.proofs.Arrays.{one-first}
 use Rattle.words.proofs.Coefficients.{dot-same, shift-same, take-same, blended-same, pair-later}

@@ -8,7 +8,7 @@ use lib.ListN.{length, take, drop, replicate, length-replicate, take-append-drop
 use lib.Seq.{drop-at, length-take-le}
 use Rattle.refusals.proofs.Legal.{strength-bounds}
 use Rattle.codewords.specs.Words.{differing, withFill}
-use Rattle.codewords.proofs.Polynomials.{_⊞_}
+use Rattle.codewords.specs.Polynomials.{_⊞_}
 use Rattle.codewords.proofs.NearCodewords.{⊞-back}
 use Rattle.codewords.proofs.Codewords.{good-unique}
 use Rattle.words.specs.Outcome.{fillOf, repaired, Found, NotFound, WordOutcome}

@@ -11,9 +11,8 @@ use lib.Bits.{bitXor}
 use Rattle.field.specs.Field.{_⊕_, whereSet, timesAlpha, shiftAndAdd, _·_, pow, beta}
 use Rattle.field.proofs.Powers.{pow-zero, pow-suc}
 use Rattle.codewords.specs.Words.{Octets}
+use Rattle.codewords.specs.Locators.{X, syndromes}
 use Rattle.codewords.proofs.WordValues.{horner, horner-value}
-use Rattle.codewords.proofs.ErrorPatterns.{X}
-use Rattle.codewords.proofs.NearCodewords.{syndromes}
 use Rattle.words.specs.Working.{Filled, locatorsFrom, hornerAt}
 use Rattle.words.proofs.Arrays.{filled-turn, sum-turn, zero-at}
 

@@ -6,13 +6,9 @@ use Prim.Native.Nat.{ℕ, suc, _+_, _-_, _≤_, _<_}
 use lib.ListN.{length, getD, take}
 use Rattle.field.specs.Field.{_⊕_, _·_, pow}
 use Rattle.field.specs.Line.{toConventional}
-use Rattle.codewords.proofs.Polynomials.{_⊞_, eval, dot}
-use Rattle.codewords.proofs.Division.{shiftBy}
-use Rattle.codewords.proofs.ErrorPatterns.{X, weight}
-use Rattle.codewords.proofs.ErrorsFound.{run, errorOf}
-use Rattle.codewords.proofs.DoubtfulSymbols.{unmarkedPart, GoodWord}
-use Rattle.codewords.proofs.MarkedPlaces.{timesMarks, erasure}
-use Rattle.codewords.proofs.EnoughRoots.{oneIfZero, rootFlags}
+use Rattle.codewords.specs.Polynomials.{eval, _⊞_, shiftBy, dot}
+use Rattle.codewords.specs.Locators.{X, weight, unmarkedPart, GoodWord, timesMarks, erasure}
+use Rattle.codewords.specs.Errors.{run, errorOf, oneIfZero, rootFlags}
 
 -- An array of so many places, of which the first n hold what f gives.
 pub record Filled (f : ℕ → ℕ) (places : ℕ) (out : List ℕ) (n : ℕ) : Type 0 where

@@ -11,7 +11,7 @@ ghost use mathlib.Core.Path.{_≡_};
 ghost use mathlib.Core.Bool.{false};
 ghost use lib.ListN.{length, replicate};
 ghost use Rattle.refusals.specs.Order.{Tells};
-ghost use Rattle.codewords.proofs.ErrorPatterns.{weight};
+ghost use Rattle.codewords.specs.Locators.{weight};
 ghost use Rattle.words.specs.Outcome.{LegalWord, WordOutcome};
 use decoder::decode_word;
 use line::conventional;

@@ -2,7 +2,7 @@
 ghost use mathlib.Core.Path.{_≡_};
 ghost use Prim.Native.Nat.{_+_, _-_, _≤_, _<_};
 ghost use lib.ListN.{length};
-ghost use Rattle.codewords.proofs.ErrorPatterns.{weight};
+ghost use Rattle.codewords.specs.Locators.{weight};
 ghost use Rattle.words.specs.Working.{Filled, windowed, HoldsProduct, HoldsChanged};
 use crate::polynomials::by_root;
 use crate::polynomials::pair;

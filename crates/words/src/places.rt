@@ -2,7 +2,7 @@
 ghost use mathlib.Core.Path.{_≡_};
 ghost use Prim.Native.Nat.{_+_, _≤_, _<_};
 ghost use lib.ListN.{length};
-ghost use Rattle.codewords.proofs.ErrorsFound.{errorIfRoot};
+ghost use Rattle.codewords.specs.Errors.{errorIfRoot};
 ghost use Rattle.words.specs.Working.{terms, HoldsPlace, HoldsPlaces};
 use crate::polynomials::pair;
 use crate::polynomials::quotient;

@@ -2,8 +2,7 @@
 ghost use mathlib.Core.Path.{_≡_};
 ghost use Prim.Native.Nat.{_≤_, _<_};
 ghost use lib.ListN.{getD, length};
-ghost use Rattle.codewords.proofs.Polynomials.{eval, dot};
-ghost use Rattle.codewords.proofs.Division.{shiftBy, quot};
+ghost use Rattle.codewords.specs.Polynomials.{eval, shiftBy, quot, dot};
 ghost use Rattle.words.specs.Working.{Filled, Same, terms, blendedAt, byRootAt};
 
 // The sum of the products, place by place.

@@ -3,8 +3,7 @@ ghost use mathlib.Core.Path.{_≡_};
 ghost use mathlib.Core.Bool.{true};
 ghost use Prim.Native.Nat.{ℕ, _<_};
 ghost use lib.ListN.{getD, length};
-ghost use Rattle.codewords.proofs.ErrorPatterns.{X};
-ghost use Rattle.codewords.proofs.NearCodewords.{syndromes};
+ghost use Rattle.codewords.specs.Locators.{X, syndromes};
 ghost use Rattle.words.specs.Working.{Filled, locatorsFrom, hornerAt};
 
 // Alpha to the eleventh.

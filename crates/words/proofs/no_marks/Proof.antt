@@ -1,6 +1,6 @@
 -- `no_marks`: 255 zeros, none of which counts.
 use mathlib.Core.Path.{refl}
-use Rattle.codewords.proofs.ErrorPatterns.{weight}
+use Rattle.codewords.specs.Locators.{weight}
 use Rattle.words.proofs.no_marks.Statement.{statement}
 use Rattle.words.proofs.no_marks.Tie as tie
 

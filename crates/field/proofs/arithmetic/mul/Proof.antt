@@ -1,7 +1,7 @@
 -- `mul` is shift and add: what is summed, and what the bits that are left would add, is the product.
 use mathlib.Core.Path.{_≡_}
 use mathlib.Core.Logic.{⊎-elim}
-use Prim.Native.Nat.{ℕ, _≤_, _-_}
+use Prim.Native.Nat.{_≤_, _-_}
 use native.Mathlib.Omega.{arith}
 use borrow.Author.Needs.{needs}
 use Rattle.field.specs.Field.{_⊕_, _·_, shiftAndAdd}

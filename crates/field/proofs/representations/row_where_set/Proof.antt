@@ -1,9 +1,6 @@
 -- `row_where_set` gives the row of a bit that is set, and zero for one that is not.
-use mathlib.Core.Path.{_≡_, sym, ap}
-use Prim.Native.Nat.{ℕ}
 use native.Mathlib.Omega.{arith}
 use borrow.Author.Needs.{needs}
-use lib.ListN.{getD}
 use Rattle.field.proofs.Turns.{set-row, clear-row}
 use Rattle.field.proofs.representations.row_where_set.Statement.{statement}
 use Rattle.field.proofs.representations.row_where_set.Tie as tie

@@ -1,6 +1,6 @@
 -- `times_matrix` adds a row for each bit that is set: what is summed, and what the rows that are left would add, is the product.
 use mathlib.Core.Path.{_≡_}
-use Prim.Native.Nat.{ℕ, _≤_, _-_}
+use Prim.Native.Nat.{_≤_, _-_}
 use native.Mathlib.Omega.{arith}
 use borrow.Author.Needs.{needs}
 use lib.ListN.{drop}

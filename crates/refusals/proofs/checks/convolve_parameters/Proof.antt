@@ -1,8 +1,7 @@
 -- `convolve_parameters` looks at the rate, then at the data, then at the symbols.
 use borrow.Author.Needs.{needs}
-use mathlib.Core.Path.{_≡_, refl, sym, ap, _∙_}
+use mathlib.Core.Path.{refl, sym, ap, _∙_}
 use mathlib.Core.Logic.{inl, inr}
-use Prim.Native.Nat.{ℕ, _+_, _/_}
 use native.Mathlib.Omega.{arith}
 use Rattle.refusals.specs.Order.{OneOf}
 use Rattle.refusals.specs.Sizes.{rates, octetsFor}

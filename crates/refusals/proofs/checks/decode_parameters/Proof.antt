@@ -1,52 +1,43 @@
--- `decode_parameters` answers checks 1 to 3, then the allowance, then the lengths.
+-- `decode_parameters` answers checks 1 to 4, then the lengths.
 use borrow.Author.Needs.{needs}
-use mathlib.Core.Path.{_≡_, refl, ap}
-use mathlib.Core.Logic.{inl, inr}
-use mathlib.Core.List.{[], _∷_}
-use Prim.Native.Nat.{ℕ, _+_}
-use native.Mathlib.Omega.{arith}
-use Rattle.refusals.specs.Calls.{wordParameters}
-use Rattle.refusals.proofs.Verdicts.{passed, stopped, after-words, same-lengths}
+use Rattle.refusals.specs.Calls.{allowedParameters}
+use Rattle.refusals.proofs.Verdicts.{passed, stopped, after-allowance, allowed-words, same-lengths}
 use Rattle.refusals.proofs.checks.decode_parameters.Statement.{statement}
 use Rattle.refusals.proofs.checks.decode_parameters.Tie as tie
 
-word-parameters-requires : tie.Need-word-parameters-requires
-word-parameters-requires c κs = search needs
+allowed-parameters-requires : tie.Need-allowed-parameters-requires
+allowed-parameters-requires c κs = search needs
 
-enum-known-word : tie.Need-enum-known-word
-enum-known-word c = search needs
+enum-known-allowed : tie.Need-enum-known-allowed
+enum-known-allowed c = search needs
 
 returns : tie.Need-returns
-returns c = stopped _ (wordParameters (c .before .before .before .before .args .e) (c .before .before .before .before .args .depth) (c .before .before .before .before .args .fill)) (c .before .before .before .word-parameters .result) _ (c .before .word .given .1) (c .before .before .before .word-parameters .ensures)
+returns c = stopped _ (allowedParameters _ _ _ _) (c .before .before .before .allowed-parameters .result) _ (c .before .allowed .given .1) (c .before .before .before .allowed-parameters .ensures)
 
 enum-told : tie.Need-enum-told
 enum-told c = search needs
 
-returns-2 : tie.Need-returns-2
-returns-2 c = after-words (c .before .before .before .before .args .e) (c .before .before .before .before .args .depth) (c .before .before .before .before .args .fill) _ (passed (wordParameters (c .before .before .before .before .args .e) (c .before .before .before .before .args .depth) (c .before .before .before .before .args .fill)) (c .before .before .before .word-parameters .result) (c .before .enum-told .given .1) (c .before .before .before .word-parameters .ensures)) (inl (omega arith, refl))
-
 block-length-requires : tie.Need-block-length-requires
-block-length-requires c κs = passed (wordParameters (c .before .before .before .before .args .e) (c .before .before .before .before .args .depth) (c .before .before .before .before .args .fill)) (c .before .before .before .word-parameters .result) (c .before .enum-told .given .1) (c .before .before .before .word-parameters .ensures)
+block-length-requires c κs = allowed-words _ _ _ _ (passed (allowedParameters _ _ _ _) (c .before .before .allowed-parameters .result) (c .enum-told .given .1) (c .before .before .allowed-parameters .ensures))
 
 frame-length-requires : tie.Need-frame-length-requires
-frame-length-requires c κs = passed (wordParameters (c .before .before .before .before .before .args .e) (c .before .before .before .before .before .args .depth) (c .before .before .before .before .before .args .fill)) (c .before .before .before .before .word-parameters .result) (c .before .before .enum-told .given .1) (c .before .before .before .before .word-parameters .ensures)
+frame-length-requires c κs = allowed-words _ _ _ _ (passed (allowedParameters _ _ _ _) (c .before .before .before .allowed-parameters .result) (c .before .enum-told .given .1) (c .before .before .before .allowed-parameters .ensures))
 
 lengths-requires : tie.Need-lengths-requires
 lengths-requires c κs = search needs
 
-returns-3 : tie.Need-returns-3
-returns-3 c = after-words (c .before .before .before .before .before .before .before .args .e) (c .before .before .before .before .before .before .before .args .depth) (c .before .before .before .before .before .before .before .args .fill) _ (passed (wordParameters (c .before .before .before .before .before .before .before .args .e) (c .before .before .before .before .before .before .before .args .depth) (c .before .before .before .before .before .before .before .args .fill)) (c .before .before .before .before .before .before .word-parameters .result) (c .before .before .before .before .enum-told .given .1) (c .before .before .before .before .before .before .word-parameters .ensures)) (inr (λ h. omega arith, same-lengths _ _ _ _ _ _ _ (c .before .before .block-length .ensures .0) (c .before .frame-length .ensures) (c .lengths .ensures)))
+returns-2 : tie.Need-returns-2
+returns-2 c = after-allowance _ _ _ _ _ (passed (allowedParameters _ _ _ _) (c .before .before .before .before .before .allowed-parameters .result) (c .before .before .before .enum-told .given .1) (c .before .before .before .before .before .allowed-parameters .ensures)) (same-lengths _ _ _ _ _ _ _ (c .before .before .block-length .ensures .0) (c .before .frame-length .ensures) (c .lengths .ensures))
 
 pub decode-parameters-spec : {M : Type 1} → statement M
 decode-parameters-spec =
     tie.close
     (tie.spec
-    word-parameters-requires
-    enum-known-word
+    allowed-parameters-requires
+    enum-known-allowed
     returns
     enum-told
-    returns-2
     block-length-requires
     frame-length-requires
     lengths-requires
-    returns-3)
+    returns-2)

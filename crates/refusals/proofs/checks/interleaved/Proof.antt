@@ -1,6 +1,5 @@
 -- `interleaved` does not wrap: at most 255 symbols of each of at most eight words.
 use borrow.Author.Needs.{needs}
-use native.Mathlib.Omega.{arith}
 use native.Mathlib.Nat.{lt-of-le-of-lt, mul-le-mul}
 use lib.Dec.{lit<}
 use Rattle.refusals.proofs.checks.interleaved.Statement.{statement}

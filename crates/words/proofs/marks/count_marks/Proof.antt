@@ -5,7 +5,8 @@ use Prim.Native.Nat.{_≤_, _+_, _-_}
 use native.Mathlib.Omega.{arith}
 use lib.ListN.{length, drop, getD}
 use borrow.Author.Needs.{needs}
-use Rattle.codewords.proofs.ErrorPatterns.{weight, oneIf, oneIf-set, oneIf-clear}
+use Rattle.codewords.specs.Locators.{weight}
+use Rattle.codewords.proofs.ErrorPatterns.{oneIf, oneIf-set, oneIf-clear}
 use Rattle.words.proofs.MarkedProducts.{count-starts, count-turn, count-ends}
 use Rattle.words.proofs.marks.count_marks.Statement.{statement}
 use Rattle.words.proofs.marks.count_marks.Tie as tie

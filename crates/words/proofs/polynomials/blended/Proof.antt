@@ -4,7 +4,7 @@ use Prim.Native.Nat.{_≤_, _-_, ℕ}
 use native.Mathlib.Omega.{arith}
 use borrow.Author.Needs.{needs}
 use Rattle.field.specs.Field.{_·_}
-use Rattle.codewords.proofs.Division.{shiftBy}
+use Rattle.codewords.specs.Polynomials.{shiftBy}
 use Rattle.words.proofs.Arrays.{filled-starts}
 use Rattle.words.proofs.Coefficients.{blended-turn}
 use Rattle.words.specs.Working.{Filled, blendedAt}

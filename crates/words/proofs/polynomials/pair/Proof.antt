@@ -5,7 +5,7 @@ use native.Mathlib.Omega.{arith}
 use lib.ListN.{length, drop}
 use borrow.Author.Needs.{needs}
 use Rattle.field.specs.Field.{_⊕_}
-use Rattle.codewords.proofs.Polynomials.{dot}
+use Rattle.codewords.specs.Polynomials.{dot}
 use Rattle.words.proofs.Coefficients.{pair-starts, pair-turn, pair-ends}
 use Rattle.words.specs.Working.{terms}
 use Rattle.words.proofs.polynomials.pair.Statement.{statement}

@@ -4,7 +4,7 @@ use Prim.Native.Nat.{_≤_}
 use native.Mathlib.Omega.{arith}
 use lib.ListN.{length, drop}
 use borrow.Author.Needs.{needs}
-use Rattle.codewords.proofs.Polynomials.{eval}
+use Rattle.codewords.specs.Polynomials.{eval}
 use Rattle.words.proofs.Coefficients.{Divided, value-starts, divided-starts, value-turn, divided-turn, divided-ends}
 use Rattle.words.proofs.polynomials.quotient.Statement.{statement}
 use Rattle.words.proofs.polynomials.quotient.Tie as tie

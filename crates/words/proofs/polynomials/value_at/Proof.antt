@@ -4,7 +4,7 @@ use Prim.Native.Nat.{_≤_}
 use native.Mathlib.Omega.{arith}
 use lib.ListN.{length, drop}
 use borrow.Author.Needs.{needs}
-use Rattle.codewords.proofs.Polynomials.{eval}
+use Rattle.codewords.specs.Polynomials.{eval}
 use Rattle.words.proofs.Coefficients.{value-starts, value-turn}
 use Rattle.words.proofs.polynomials.value_at.Statement.{statement}
 use Rattle.words.proofs.polynomials.value_at.Tie as tie

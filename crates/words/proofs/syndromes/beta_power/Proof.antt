@@ -3,7 +3,7 @@ use mathlib.Core.Path.{_≡_, refl}
 use Prim.Native.Nat.{_≤_, _-_}
 use native.Mathlib.Omega.{arith}
 use borrow.Author.Needs.{needs}
-use Rattle.codewords.proofs.ErrorPatterns.{X}
+use Rattle.codewords.specs.Locators.{X}
 use Rattle.words.proofs.WordSums.{power-starts, power-turn}
 use Rattle.words.proofs.syndromes.beta_power.Statement.{statement}
 use Rattle.words.proofs.syndromes.beta_power.Tie as tie

@@ -3,7 +3,7 @@ use mathlib.Core.Path.{_≡_, refl}
 use Prim.Native.Nat.{_≤_, _+_, _-_}
 use native.Mathlib.Omega.{arith}
 use borrow.Author.Needs.{needs}
-use Rattle.codewords.proofs.ErrorPatterns.{X}
+use Rattle.codewords.specs.Locators.{X}
 use Rattle.words.proofs.Arrays.{filled-starts}
 use Rattle.words.proofs.WordSums.{point-starts, power-turn, points-turn}
 use Rattle.words.specs.Working.{Filled, locatorsFrom}
