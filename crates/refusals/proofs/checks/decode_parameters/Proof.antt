@@ -27,7 +27,7 @@ lengths-requires : tie.Need-lengths-requires
 lengths-requires c κs = search needs
 
 returns-2 : tie.Need-returns-2
-returns-2 c = after-allowance _ _ _ _ _ (passed (allowedParameters _ _ _ _) (c .before .before .before .before .before .allowed-parameters .result) (c .before .before .before .enum-told .given .1) (c .before .before .before .before .before .allowed-parameters .ensures)) (same-lengths _ _ _ _ _ _ _ (c .before .before .block-length .ensures .0) (c .before .frame-length .ensures) (c .lengths .ensures))
+returns-2 c = after-allowance _ _ _ _ _ (passed (allowedParameters _ _ _ _) (c .before .before .before .before .before .allowed-parameters .result) (c .before .before .before .enum-told .given .1) (c .before .before .before .before .before .allowed-parameters .ensures)) (same-lengths _ _ _ _ (c .before .before .before .before .before .before .args .block) (c .before .before .before .before .before .before .args .frame) _ (c .before .before .block-length .ensures .0) (c .before .frame-length .ensures) (c .lengths .ensures))
 
 pub decode-parameters-spec : {M : Type 1} → statement M
 decode-parameters-spec =

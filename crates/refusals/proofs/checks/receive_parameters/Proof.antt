@@ -37,7 +37,7 @@ lengths-requires : tie.Need-lengths-requires
 lengths-requires c κs = search needs
 
 returns-3 : tie.Need-returns-3
-returns-3 c = after-allowance _ _ _ _ _ (passed (allowedParameters _ _ _ _) (c .before .before .before .before .before .before .allowed-parameters .result) (c .before .before .before .before .enum-told .given .1) (c .before .before .before .before .before .before .allowed-parameters .ensures)) (inr (λ h. omega arith, same-lengths _ _ _ _ _ _ _ (ap (λ (n : ℕ). n + 4) (c .before .before .block-length .ensures .0)) (c .before .frame-length .ensures) (c .lengths .ensures)))
+returns-3 c = after-allowance _ _ _ _ _ (passed (allowedParameters _ _ _ _) (c .before .before .before .before .before .before .allowed-parameters .result) (c .before .before .before .before .enum-told .given .1) (c .before .before .before .before .before .before .allowed-parameters .ensures)) (inr (λ h. omega arith, same-lengths _ _ _ _ (c .before .before .before .before .before .before .before .args .marked) (c .before .before .before .before .before .before .before .args .frame) _ (ap (λ (n : ℕ). n + 4) (c .before .before .block-length .ensures .0)) (c .before .frame-length .ensures) (c .lengths .ensures)))
 
 pub receive-parameters-spec : {M : Type 1} → statement M
 receive-parameters-spec =
