@@ -9,6 +9,7 @@ unfoldable pub timesMatrix : List ℕ → ℕ → ℕ
 timesMatrix [] octet = 0
 timesMatrix (row ∷ rows) octet = whereSet (octet / 2 ^ length rows % 2) row ⊕ timesMatrix rows octet
 
+-- The rows of the two matrices.
 abbrev pub lineRows : List ℕ
 lineRows = 0x8D ∷ 0xEF ∷ 0xEC ∷ 0x86 ∷ 0xFA ∷ 0x99 ∷ 0xAF ∷ 0x7B ∷ []
 

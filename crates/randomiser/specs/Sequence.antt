@@ -26,10 +26,11 @@ numberFrom register p (suc n) = numberFrom register p n * 2 + bitFrom register (
 unfoldable pub eightOn : ℕ → ℕ
 eightOn register = numberFrom register 8 8
 
--- Octet n of the sequence, whose first eight bits are ones; and a block with the sequence added, from its octet n on.
+-- Octet n of the sequence, whose first eight bits are ones.
 unfoldable pub sequenceOctet : ℕ → ℕ
 sequenceOctet n = numberFrom 0xFF (8 * n) 8
 
+-- Octets with the sequence added, the first of them with its octet n.
 unfoldable pub addedFrom : ℕ → List ℕ → List ℕ
 addedFrom n [] = []
 addedFrom n (octet ∷ block) = bitXor octet (sequenceOctet n) ∷ addedFrom (suc n) block

@@ -13,6 +13,7 @@ sentFrom i block w k (suc n) = getD block (k * i + w) 0 ∷ sentFrom i block w (
 abbrev pub wordOf : ℕ → ℕ → List ℕ → ℕ → List ℕ
 wordOf i q block w = withFill q (sentFrom i block w 0 (255 - q))
 
+-- All counts together.
 unfoldable pub sum : List ℕ → ℕ
 sum [] = 0
 sum (n ∷ ns) = n + sum ns

@@ -19,6 +19,7 @@ pub record Coded (e i q : ℕ) (frame block : List ℕ) : Type 0 where
   pub information : take (length frame) block ≡ frame
   pub words : (w : ℕ) → w < i → Codeword e (wordOf i q block w)
 
+-- Encode checks in its order. After a refusal the block is as it was.
 pub record EncodeOutcome (e i q : ℕ) (frame before : List ℕ) (answer : Verdict) (after : List ℕ) : Type 0 where
   pub number : FirstOf (encodeOrder e i q (length frame) (length before)) (verdictNumber answer)
   pub size : length after ≡ length before

@@ -3,6 +3,7 @@ use mathlib.Core.List.{List, [], _∷_}
 use Prim.Native.Nat.{ℕ, _+_, _-_, _*_, _/_}
 use lib.ListN.{getD}
 
+-- The legal strengths E and depths I, and the numbers of the legal rates.
 abbrev pub strengths : List ℕ
 strengths = 8 ∷ 16 ∷ []
 
