@@ -13,6 +13,10 @@ use Rattle.convolution.specs.Steps.{stream, Rows, Filled, Ready, Kept}
 use Rattle.convolution.specs.declared.State.{State}
 use Rattle.convolution.proofs.Bits.{low-mod, low-split, low-length, bits-append, bits-length}
 
+-- Before the first bit all symbols are yet to send.
+pub stream-starts : (rate : ℕ) (s : State) (bits : List ℕ) → s .register ≡ 0 → s .place ≡ 0 → s .holds ≡ 0 → stream rate s bits ≡ symbolsFrom rate 0 0 bits
+stream-starts rate s bits register place holds = rw (holds, register, place)
+
 -- The zeros at the end of a row say what the pattern says there.
 padded : (xs : List ℕ) (n i : ℕ) → getD (xs ++ replicate n 0) i 0 ≡ getD xs i 0
 padded [] zero i = refl

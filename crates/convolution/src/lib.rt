@@ -206,6 +206,18 @@ fn closed(symbols: &mut [u8], held: u32, holds: usize) -> u32
     (8 * (n - 1) + holds) as u32
 }
 
+// No bit is in yet: the six before the first count as 0.
+fn at_start() -> State
+    ensures { λ r. ⌜ (r .register ≡ 0) × (r .place ≡ 0) × (r .held ≡ 0) × (r .holds ≡ 0) ⌝ }
+{
+    State {
+        register: 0,
+        place: 0,
+        held: 0,
+        holds: 0,
+    }
+}
+
 fn coded(rate: u32, octets: &[u8], symbols: &mut [u8]) -> u32
     requires { ⌜ OneOf rates rate × (length (now octets) ≤ 2044) × (length (now symbols) ≡ octetsFor (symbolCount rate (length (now octets)))) ⌝ }
     ensures { λ r. ⌜ Packed (symbolsFrom rate 0 0 (bitsOf (now (octets .entry)))) r (now (symbols .exit)) ⌝ }
@@ -216,12 +228,7 @@ fn coded(rate: u32, octets: &[u8], symbols: &mut [u8]) -> u32
     let row = row_of(rate);
     let c1 = c1_rows[row];
     let c2 = c2_rows[row];
-    let start = State {
-        register: 0,
-        place: 0,
-        held: 0,
-        holds: 0,
-    };
+    let start = at_start();
     let end = all_in(rate, periods[row], &c1, &c2, octets, symbols, start);
     closed(symbols, end.held, end.holds)
 }

@@ -1,26 +1,12 @@
--- What the code asks: eight bits on at once, and a block whose first octets have the sequence added.
-use mathlib.Core.Path.{_≡_, refl, sym, ap, ap₂, _∙_, subst}
+-- What the loop asks: a block whose first octets have the sequence added.
+use mathlib.Core.Path.{_≡_, refl, sym, ap, ap₂, _∙_}
 use mathlib.Core.List.{List, [], _∷_}
-use Prim.Native.Nat.{ℕ, zero, suc, _+_, _-_, _*_, _/_, _%_, _^_, _≤_, _<_}
+use Prim.Native.Nat.{ℕ, zero, suc, _+_, _≤_, _<_}
 use native.Mathlib.Numerals.{add-one}
 use native.Mathlib.Nat.{not-suc-le-zero, zero-add, add-zero, add-suc, suc-add, le-of-suc-le-suc}
-use native.Mathlib.Omega.{arith}
 use lib.Bits.{bitXor}
 use lib.ListN.{length, getD, set}
-use Rattle.field.proofs.Below.{equal-below}
-use Rattle.randomiser.specs.Sequence.{bitAfter, bitOf, bitFrom, numberFrom, eightOn, sequenceOctet, addedFrom}
-
--- ---- the step, by a test over all register contents
-
-unfoldable pub old : ℕ → ℕ
-old bits = bitXor (bitXor (bitXor bits (bits * 8 % 256)) (bits * 32 % 256)) (bits * 128 % 256)
-
-unfoldable pub new : ℕ → ℕ
-new x = bitXor (bitXor (bitXor (bitXor x (x / 2)) (x / 4)) (x / 16)) (x / 32)
-
-pub step-is : (bits : ℕ) → bits < 256 → new (old bits) ≡ eightOn bits
-unfolding old new eightOn numberFrom bitFrom bitAfter
-step-is bits h = equal-below (λ x. new (old x)) eightOn 256 tt bits h
+use Rattle.randomiser.specs.Sequence.{sequenceOctet, addedFrom}
 
 -- ---- a block whose first octets have the sequence added, from octet n of the sequence on
 

@@ -6,8 +6,9 @@ use native.Mathlib.Omega.{arith}
 use borrow.Author.Needs.{needs}
 use lib.ListN.{length}
 use Rattle.refusals.specs.Sizes.{symbolCount, octetsFor}
-use Rattle.convolution.specs.Steps.{Packed}
+use Rattle.convolution.specs.Steps.{stream, Packed}
 use Rattle.convolution.specs.Coder.{bitsOf, symbolsFrom}
+use Rattle.convolution.proofs.Stream.{stream-starts}
 use Rattle.convolution.proofs.Closing.{run-unclosed}
 use Rattle.convolution.proofs.Tables.{listed, symbols-most}
 use Rattle.convolution.proofs.Count.{regular, symbol-count}
@@ -29,6 +30,9 @@ mul-c2 c = search needs
 array-copy-out-c2 : tie.Need-array-copy-out-c2
 array-copy-out-c2 c = search needs
 
+at-start-requires : tie.Need-at-start-requires
+at-start-requires c κs = search needs
+
 mul-all-in : tie.Need-mul-all-in
 mul-all-in c = search needs
 
@@ -37,24 +41,28 @@ array-read-all-in c = search needs
 
 all-in-requires : tie.Need-all-in-requires
 all-in-requires c κs =
-    let start = c .before .before .before .before .before .before .before .before in
+    let start = c .before .before .before .before .before .before .before .before .before in
     let rate = start .args .rate in
     let octets = start .args .octets .now in
-    let whole = symbolsFrom rate 0 0 (bitsOf octets) in
-    let count : length whole ≡ symbolCount rate (length octets) = symbol-count rate octets (start .pre .0) in
+    let first = c .before .before .before .at-start in
+    let whole = stream rate (first .result) (bitsOf octets) in
+    let all : whole ≡ symbolsFrom rate 0 0 (bitsOf octets) = stream-starts rate (first .result) (bitsOf octets) (first .ensures .0) (first .ensures .1) (first .ensures .3) in
+    let count : length whole ≡ symbolCount rate (length octets) = ap length all ∙ symbol-count rate octets (start .pre .0) in
     let long : length (start .args .symbols .now) ≡ octetsFor (length whole) = start .pre .2 ∙ ap octetsFor (sym count) in (
-      listed rate (c .before .before .before .before .before .row-of .result) (start .pre .0) (c .before .before .before .before .before .row-of .ensures .0),
-      record { register = omega arith; place = regular rate (start .pre .0) .some; held = omega arith; holds = omega arith },
+      listed rate (c .before .before .before .before .before .before .row-of .result) (start .pre .0) (c .before .before .before .before .before .before .row-of .ensures .0),
+      record { register = omega arith; place = omega (arith, regular rate (start .pre .0) .some); held = omega arith; holds = omega arith },
       omega (arith, long),
     )
 
 closed-requires : tie.Need-closed-requires
 closed-requires c κs =
-    let start = c .before .before .before .before .before .before .before .before .before .before .before .before in
+    let start = c .before .before .before .before .before .before .before .before .before .before .before .before .before in
     let rate = start .args .rate in
     let octets = start .args .octets .now in
-    let whole = symbolsFrom rate 0 0 (bitsOf octets) in
-    let count : length whole ≡ symbolCount rate (length octets) = symbol-count rate octets (start .pre .0) in
+    let first = c .before .before .before .before .before .before .before .at-start in
+    let whole = stream rate (first .result) (bitsOf octets) in
+    let all : whole ≡ symbolsFrom rate 0 0 (bitsOf octets) = stream-starts rate (first .result) (bitsOf octets) (first .ensures .0) (first .ensures .1) (first .ensures .3) in
+    let count : length whole ≡ symbolCount rate (length octets) = ap length all ∙ symbol-count rate octets (start .pre .0) in
     let long : length (start .args .symbols .now) ≡ octetsFor (length whole) = start .pre .2 ∙ ap octetsFor (sym count) in
     let run = c .before .before .before .all-in .ensures in
     let most = symbols-most rate (length octets) (start .pre .0) in
@@ -66,15 +74,17 @@ same-length c = search needs
 
 returns : tie.Need-returns
 returns c =
-    let start = c .before .before .before .before .before .before .before .before .before .before .before .before .before .before .before in
+    let start = c .before .before .before .before .before .before .before .before .before .before .before .before .before .before .before .before in
     let rate = start .args .rate in
     let octets = start .args .octets .now in
-    let whole = symbolsFrom rate 0 0 (bitsOf octets) in
-    let count : length whole ≡ symbolCount rate (length octets) = symbol-count rate octets (start .pre .0) in
+    let first = c .before .before .before .before .before .before .before .before .before .before .at-start in
+    let whole = stream rate (first .result) (bitsOf octets) in
+    let all : whole ≡ symbolsFrom rate 0 0 (bitsOf octets) = stream-starts rate (first .result) (bitsOf octets) (first .ensures .0) (first .ensures .1) (first .ensures .3) in
+    let count : length whole ≡ symbolCount rate (length octets) = ap length all ∙ symbol-count rate octets (start .pre .0) in
     let long : length (start .args .symbols .now) ≡ octetsFor (length whole) = start .pre .2 ∙ ap octetsFor (sym count) in
     let same : length (c .before .before .before .before .before .before .all-in .last .1 .1 .1 .1 .1 .0) ≡ length (start .args .symbols .now) = c .before .before .before .before .before .before .all-in .kept .1 .1 .1 .1 .1 .0 in
     subst (λ (l : List ℕ). Packed l (c .before .before .closed .result) (c .before .before .closed .last .0))
-    (run-unclosed whole (c .before .before .before .before .before .before .all-in .last .1 .1 .1 .1 .1 .0) (c .before .before .before .before .before .before .all-in .result) (c .before .before .before .before .before .before .all-in .ensures) (same ∙ long))
+    (run-unclosed whole (c .before .before .before .before .before .before .all-in .last .1 .1 .1 .1 .1 .0) (c .before .before .before .before .before .before .all-in .result) (c .before .before .before .before .before .before .all-in .ensures) (same ∙ long) ∙ all)
     (c .before .before .closed .ensures)
 
 pub coded-spec : {M : Type 1} → statement M
@@ -86,6 +96,7 @@ coded-spec =
     array-copy-out-c1
     mul-c2
     array-copy-out-c2
+    at-start-requires
     mul-all-in
     array-read-all-in
     all-in-requires

@@ -1,25 +1,26 @@
 -- `octet_of` fits: fewer than 255 symbols of at most eight words.
-use borrow.Author.Needs.{needs}
-use Prim.Native.Nat.{_*_, _≤_}
-use native.Mathlib.Nat.{mul-le-mul, lt-of-le-of-lt}
+use mathlib.Core.Path.{refl}
+use Prim.Native.Nat.{ℕ, _+_, _*_, _^_, _≤_, _<_}
+use native.Mathlib.Nat.{add-le-add, mul-le-mul, lt-of-le-of-lt}
 use native.Mathlib.Omega.{arith}
 use lib.Dec.{lit<}
 use Rattle.reed_solomon.proofs.octets.octet_of.Statement.{statement}
 use Rattle.reed_solomon.proofs.octets.octet_of.Tie as tie
 
+product-fits : {a b : ℕ} → a ≤ 255 → b ≤ 8 → a * b < 2 ^ 64
+product-fits ha hb = lt-of-le-of-lt (mul-le-mul ha hb) (lit< tt)
+
+sum-fits : {a b n : ℕ} → a ≤ 255 → b ≤ 8 → n ≤ 255 → a * b + n < 2 ^ 64
+sum-fits ha hb hn = lt-of-le-of-lt (add-le-add (mul-le-mul ha hb) hn) (lit< tt)
+
 mul-result : tie.Need-mul-result
-mul-result c =
-    let below : c .args .k ≤ 255 = omega arith in
-    record { fits = lt-of-le-of-lt (mul-le-mul below (c .pre .1)) (lit< tt) }
+mul-result c = record { fits = product-fits (omega arith) (omega arith) }
 
 add-result : tie.Need-add-result
-add-result c =
-    let below : c .args .k ≤ 255 = omega arith in
-    let most : c .args .k * c .args .depth ≤ 255 * 8 = mul-le-mul below (c .pre .1) in
-    omega arith
+add-result c = record { fits = sum-fits (omega arith) (omega arith) (omega arith) }
 
 returns : tie.Need-returns
-returns c = search needs
+returns c = refl
 
 pub octet-of-spec : {M : Type 1} → statement M
 octet-of-spec = tie.close (tie.spec mul-result add-result returns)
