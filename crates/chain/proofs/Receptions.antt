@@ -8,6 +8,8 @@ use native.Mathlib.Nat.{le-of-eq}
 use native.Mathlib.Omega.{arith}
 use lib.ListN.{length, take, drop, replicate, length-append, length-drop}
 use lib.Seq.{take-all, take-at, length-take-le}
+use Rattle.octets.specs.Copies.{copiedOver}
+use Rattle.octets.proofs.Laws.{copied-length, copied-front}
 use Rattle.refusals.specs.Order.{Check, FirstOf}
 use Rattle.refusals.specs.Sizes.{frameLength, markedLength}
 use Rattle.refusals.specs.Numbers.{verdictNumber, parameterNumber, markerNumber}
@@ -86,26 +88,25 @@ decode-passes e i q s t marked frame block size f =
 -- ---- the block opened
 
 -- What stands in front of the list once the block was copied there, and lent, and came back opened.
-copied-front : (block before copied : List ℕ) → copied ≡ block ++ drop (length block) before → take (length block) copied ≡ block
-copied-front block before copied copy = ap (take (length block)) copy ∙ take-at block (drop (length block) before) (length block) refl
+module _ (block before copied : List ℕ) (fits : length block ≤ length before) (copy : copied ≡ copiedOver block before) where
+  front-is : take (length block) copied ≡ block
+  front-is = ap (take (length block)) copy ∙ copied-front block before fits
 
-pub copied-size : (block before copied : List ℕ) → copied ≡ block ++ drop (length block) before → length (take (length block) copied) ≡ length block
-copied-size block before copied copy = ap length (copied-front block before copied copy)
+  pub copied-size : length (take (length block) copied) ≡ length block
+  copied-size = ap length front-is
 
-pub block-opened : (flag : Bool) (block before copied put : List ℕ) → length block ≤ length before → copied ≡ block ++ drop (length block) before
-    → put ≡ randomisedIf flag (take (length block) copied)
-    → (length (put ++ drop (length block) copied) ≡ length before) × (take (length block) (put ++ drop (length block) copied) ≡ randomisedIf flag block)
-block-opened flag block before copied put fits copy is = (
-  length-append put (drop (length block) copied)
-      ∙ omega (arith, put-size, length-drop (length block) copied, ap length copy, length-append block (drop (length block) before), length-drop (length block) before),
-  take-at put (drop (length block) copied) (length block) put-size ∙ put-is,
-)
-  where
-    put-is : put ≡ randomisedIf flag block
-    put-is = is ∙ ap (randomisedIf flag) (copied-front block before copied copy)
+  pub block-opened : (flag : Bool) (put : List ℕ) → put ≡ randomisedIf flag (take (length block) copied)
+      → (length (put ++ drop (length block) copied) ≡ length before) × (take (length block) (put ++ drop (length block) copied) ≡ randomisedIf flag block)
+  block-opened flag put is = (
+    length-append put (drop (length block) copied) ∙ omega (arith, put-size, length-drop (length block) copied, ap length copy, copied-length block before),
+    take-at put (drop (length block) copied) (length block) put-size ∙ put-is,
+  )
+    where
+      put-is : put ≡ randomisedIf flag block
+      put-is = is ∙ ap (randomisedIf flag) front-is
 
-    put-size : length put ≡ length block
-    put-size = ap length put-is ∙ randomised-length flag block
+      put-size : length put ≡ length block
+      put-size = ap length put-is ∙ randomised-length flag block
 
 pub opened-size : (flag : Bool) (block after : List ℕ) → take (length block) after ≡ randomisedIf flag block → length block ≡ length (take (length block) after)
 opened-size flag block after front = sym (ap length front ∙ randomised-length flag block)

@@ -8,6 +8,8 @@ use native.Mathlib.Omega.{arith}
 use lib.ListN.{length, take, drop, length-append, length-drop, drop-of-length-le}
 use lib.Seq.{take-all, drop-at, length-take-le}
 use borrow.Rule.Slice.PartMut.{midOf, putMid, same-len-mid}
+use Rattle.octets.specs.Copies.{copiedOver}
+use Rattle.octets.proofs.Laws.{copied-fitting}
 use Rattle.refusals.specs.Order.{FirstOf}
 use Rattle.refusals.specs.Sizes.{frameLength, blockLength, markedLength}
 use Rattle.refusals.specs.Numbers.{verdictNumber}
@@ -109,12 +111,12 @@ module _ (e i q : ℕ) (flag : Bool) (frame before : List ℕ) (v : Verdict) (fi
       abbrev coded : List ℕ
       coded = putMid 4 (length before - 4) before block
 
-      pub marker-room : 4 ≤ length coded
+      marker-room : 4 ≤ length coded
       marker-room = omega (arith, same-len-mid 4 (length before - 4) before block (C .size), marker-fits)
 
-      module _ (marked : List ℕ) (copied : marked ≡ marker ++ drop 4 coded) where
+      module _ (marked : List ℕ) (copied : marked ≡ copiedOver marker coded) where
         marked-is : marked ≡ marker ++ block
-        marked-is = copied ∙ ap {B = List ℕ} (λ (rest : List ℕ). marker ++ rest) (put-back before block marker-fits)
+        marked-is = copied ∙ copied-fitting marker coded marker-room ∙ ap {B = List ℕ} (λ (rest : List ℕ). marker ++ rest) (put-back before block marker-fits)
 
         marked-size : length marked ≡ length block + 4
         marked-size = omega (arith, ap length marked-is, length-append marker block)

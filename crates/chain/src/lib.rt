@@ -1,5 +1,5 @@
 // The chains: a frame made into a marked block, and a marked block made into its frame again.
-mod octets;
+mod blocks;
 mod receiver;
 mod transmitter;
 

@@ -7,7 +7,7 @@ ghost use Rattle.chain.specs.Outcome.{randomisedIf, wordStage, AsDecode,
 use crate::Received;
 use crate::Reception;
 use crate::Stage;
-use crate::octets::open_block;
+use crate::blocks::open_block;
 use marker::Tested;
 use reed_solomon::Decoded;
 use refusals::Verdict;

@@ -1,7 +1,7 @@
 // Transmission: frame, encode, randomise if asked, marker in front.
 ghost use Rattle.chain.specs.Outcome.{TransmitOutcome};
-use crate::octets::copy_front;
-use crate::octets::randomise_if;
+use crate::blocks::randomise_if;
+use octets::copy_front;
 use refusals::Verdict;
 
 const MARKER: [u8; 4] = [0x1A, 0xCF, 0xFC, 0x1D];

@@ -16,13 +16,3 @@ pub fn fill(x: u32, s: &mut [u8]) {
         s[i] = drawn(y);
     }
 }
-
-// The front of `out` becomes `octets`, as far as both reach.
-pub fn copy(octets: &[u8], out: &mut [u8]) {
-    let n = octets.len();
-    if n <= out.len() {
-        for i in 0..n {
-            out[i] = octets[i];
-        }
-    }
-}

@@ -44,7 +44,7 @@ fn damaged(e: u32, depth: u32, fill: u32, damage: Damage, s: u32, block: &[u8], 
     let mut received = [0u8; 2040];
     let mut delivered = [170u8; 2040];
     let n = block.len();
-    data::copy(block, &mut received);
+    octets::copy_front(block, &mut received);
     decoded(
         e,
         depth,

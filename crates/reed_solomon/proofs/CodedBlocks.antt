@@ -6,8 +6,10 @@ use Prim.Native.Nat.{ℕ, _+_, _-_, _*_, _≤_, _<_}
 use native.Mathlib.Nat.{mul-le-mul-right}
 use native.Mathlib.Decide.{ℕ-discrete}
 use native.Mathlib.Omega.{arith}
-use lib.ListN.{length, take, drop, getD}
-use lib.Seq.{take-at, getD-take, length-front, length-take-le}
+use lib.ListN.{length, take, getD}
+use lib.Seq.{getD-take}
+use Rattle.octets.specs.Copies.{copiedOver}
+use Rattle.octets.proofs.Laws.{copied-length, copied-front}
 use Rattle.refusals.specs.Order.{FirstOf}
 use Rattle.refusals.specs.Sizes.{information, frameLength, blockLength}
 use Rattle.refusals.specs.Calls.{encodeOrder}
@@ -54,18 +56,16 @@ checks-fit e i q frame block legal = omega (arith, legal .input, legal .output, 
     sizes : 255 - q ≡ information e - q + (e + e)
     sizes = omega (arith, legal .words .strong, legal .words .filled)
 
-pub put-size : (e i q : ℕ) (frame before put : List ℕ) → EncodeLegal e i q (length frame) (length before) → put ≡ frame ++ drop (length frame) before → length put ≡ length before
-put-size e i q frame before put legal P =
-    ap length P ∙ length-front before frame (length frame)
-    (sym (length-take-le (length frame) before (omega (arith, checks-fit e i q (length frame) (length before) legal))))
+put-size : (frame before put : List ℕ) → put ≡ copiedOver frame before → length put ≡ length before
+put-size frame before put P = ap length P ∙ copied-length frame before
 
-pub checks-room : (e i q : ℕ) (frame before put : List ℕ) → EncodeLegal e i q (length frame) (length before) → put ≡ frame ++ drop (length frame) before
+pub checks-room : (e i q : ℕ) (frame before put : List ℕ) → EncodeLegal e i q (length frame) (length before) → put ≡ copiedOver frame before
     → (0 < i) × (i ≤ 8) × (length frame ≤ length put) × (length put ≤ length frame + 32 * i)
 checks-room e i q frame before put legal P =
     (omega (arith, legal .words .some), legal .words .deep, omega (arith, size, fits), omega (arith, size, fits, mul-le-mul-right i few))
   where
     size : length put ≡ length before
-    size = put-size e i q frame before put legal P
+    size = put-size frame before put P
 
     fits : length frame + (e + e) * i ≡ length before
     fits = checks-fit e i q (length frame) (length before) legal
@@ -76,7 +76,7 @@ checks-room e i q frame before put legal P =
 -- ---- the block
 
 module _ (e i q : ℕ) (frame before put after : List ℕ) (rows : List (List ℕ)) (table : List ℕ) (legal : EncodeLegal e i q (length frame) (length before))
-    (T : StrengthTable e table) (R : RowsDone table i frame rows) (P : put ≡ frame ++ drop (length frame) before) (C : ChecksPut rows i (length frame) put after)
+    (T : StrengthTable e table) (R : RowsDone table i frame rows) (P : put ≡ copiedOver frame before) (C : ChecksPut rows i (length frame) put after)
     (octets : (m : ℕ) → getD frame m 0 < 256) where
   abbrev symbols : ℕ
   symbols = information e - q
@@ -88,7 +88,7 @@ module _ (e i q : ℕ) (frame before put after : List ℕ) (rows : List (List �
   fits = checks-fit e i q (length frame) (length before) legal
 
   first : take (length frame) after ≡ frame
-  first = C .front ∙ ap (take (length frame)) P ∙ take-at frame (drop (length frame) before) (length frame) refl
+  first = C .front ∙ ap (take (length frame)) P ∙ copied-front frame before (omega (arith, fits))
 
   module _ (w : ℕ) (h : w < i) where
     abbrev row : List ℕ
@@ -102,7 +102,7 @@ module _ (e i q : ℕ) (frame before put after : List ℕ) (rows : List (List �
         sent-is i after w (0 + symbols) (e + e) (take (e + e) row)
         (row-front-size e (T .generator) (T .right) (omega (arith, legal .words .weak)) (legal .words .strong) i frame w symbols)
         (λ j l. ap (λ (n : ℕ). getD after n 0) (omega (arith, legal .input))
-        ∙ C .checks j w h (omega (arith, put-size e i q frame before put legal P, fits, place-below i j (e + e) w l h))
+        ∙ C .checks j w h (omega (arith, put-size frame before put P, fits, place-below i j (e + e) w l h))
         ∙ ap (λ (list : List ℕ). getD list j 0) row-is ∙ sym (getD-take (e + e) row j 0 l))
 
     word-coded : Codeword e (wordOf i q after w)
@@ -116,7 +116,7 @@ module _ (e i q : ℕ) (frame before put after : List ℕ) (rows : List (List �
   block-coded = record { information = first; words = word-coded }
 
   pub block-size : length after ≡ length before
-  block-size = C .size ∙ put-size e i q frame before put legal P
+  block-size = C .size ∙ put-size frame before put P
 
 -- ---- encode
 
@@ -131,7 +131,7 @@ module _ (e i q : ℕ) (frame before : List ℕ) (v : Verdict) (first : FirstOf 
       }
 
   pub encode-accepts : (put after : List ℕ) (rows : List (List ℕ)) (table : List ℕ) → v ≡ Accepted → StrengthTable e table → RowsDone table i frame rows
-      → put ≡ frame ++ drop (length frame) before → ChecksPut rows i (length frame) put after → ((m : ℕ) → getD frame m 0 < 256)
+      → put ≡ copiedOver frame before → ChecksPut rows i (length frame) put after → ((m : ℕ) → getD frame m 0 < 256)
       → EncodeOutcome e i q frame before Accepted after
   encode-accepts put after rows table accepts T R P C octets =
       record {

@@ -1,13 +1,15 @@
 -- What `decode` answers: refused for a parameter, refused for the lowest lost word, or delivered.
 use mathlib.Core.Path.{_≡_, refl, sym, ap, ap₂, _∙_, subst}
 use mathlib.Core.Logic.{inl, inr}
-use mathlib.Core.List.{List, [], _∷_, _++_}
+use mathlib.Core.List.{List, [], _∷_}
 use Prim.Native.Nat.{ℕ, zero, suc, _+_, _-_, _*_, _≤_, _<_}
 use native.Mathlib.Nat.{mul-le-mul}
 use native.Mathlib.Omega.{arith}
 use native.Mathlib.Decide.{decLt}
-use lib.ListN.{length, take, drop, getD, replicate, length-append, length-drop, List·getD-append}
+use lib.ListN.{length, take, drop, getD, replicate, List·getD-append}
 use lib.Seq.{getD-take, length-take-le}
+use Rattle.octets.specs.Copies.{copiedOver}
+use Rattle.octets.proofs.Laws.{copied-fitting, copied-length}
 use Rattle.refusals.specs.Order.{FirstOf, OneOf}
 use Rattle.refusals.specs.Sizes.{strengths, depths, information, frameLength, blockLength}
 use Rattle.refusals.specs.Numbers.{verdictNumber, parameterNumber}
@@ -67,9 +69,6 @@ fitting e i q s block repaired frame size f =
       room = omega (arith, frame-most e i q (L .words));
     }
 
-pub front-fits : (n : ℕ) (list : List ℕ) → n ≤ length list → length (take n list) ≤ n
-front-fits n list h = omega (arith, length-take-le n list h)
-
 -- ---- the answers
 
 module _ (e i q s : ℕ) (block frame : List ℕ) where
@@ -109,14 +108,14 @@ module _ (e i q s : ℕ) (block frame : List ℕ) where
         let L : LegalBlock e i q s (length block) (length frame) = legal-block e i q s (length block) (length frame) f in
         omega (arith, R .size, L .room, frame-most e i q (L .words))
 
-    pub delivers : i ≤ words → len ≡ 2040 → (after : List ℕ) → after ≡ take (length frame) repaired ++ drop (length (take (length frame) repaired)) frame
+    pub delivers : i ≤ words → len ≡ 2040 → (after : List ℕ) → after ≡ copiedOver (take (length frame) repaired) frame
         → DecodeOutcome e i q s block frame Delivered counts total after
     delivers h room after is =
         record {
           number = first-passes (decodeParameters e i q s (length block) (length frame)) 0 (decode-numbers e i q s (length block) (length frame)) f
               (inr ((λ l. l .2 (D .codewords (l .0)) (D .good (l .0) (l .1))), refl));
           word = λ ten. absurd (omega arith);
-          size = (ap length is ∙ length-append front (drop (length front) frame) ∙ omega (arith, length-drop (length front) frame, front-size), R .sofar .size);
+          size = (ap length is ∙ copied-length front frame, R .sofar .size);
           refused = λ n. absurd (n refl);
           delivered = λ z. D;
         }
@@ -132,7 +131,7 @@ module _ (e i q s : ℕ) (block frame : List ℕ) where
 
         at : (n : ℕ) → n < length frame → getD after n 0 ≡ getD repaired n 0
         at n l =
-            ap (λ (list : List ℕ). getD list n 0) is ∙ List·getD-append front (drop (length front) frame) 0 n (omega (arith, front-size))
+            ap (λ (list : List ℕ). getD list n 0) (is ∙ copied-fitting front frame (omega (arith, front-size))) ∙ List·getD-append front (drop (length front) frame) 0 n (omega (arith, front-size))
             ∙ getD-take (length frame) repaired n 0 l
 
         each : (w : ℕ) → w < i → HasCodeword e i q s block w repaired (getD counts w 0)

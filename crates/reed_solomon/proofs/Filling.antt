@@ -1,11 +1,11 @@
 -- A list that is filled element by element, from a start on: what a loop has written so far.
 use mathlib.Core.Path.{_≡_, refl, sym, ap, _∙_}
-use mathlib.Core.List.{List, _++_}
-use Prim.Native.Nat.{ℕ, _+_, _-_, _≤_, _<_, min}
-use native.Mathlib.Decide.{ℕ-discrete, decLt}
+use mathlib.Core.List.{List}
+use Prim.Native.Nat.{ℕ, _+_, _≤_, _<_, min}
+use native.Mathlib.Decide.{ℕ-discrete}
 use native.Mathlib.Omega.{arith}
-use lib.ListN.{length, take, drop, getD, set, length-set, length-take, List·getD-append}
-use lib.Seq.{getD-set-same, getD-set-other, getD-append-add, getD-take, getD-drop, length-front, length-take-le, ext-getD}
+use lib.ListN.{length, take, getD, set, length-set, length-take}
+use lib.Seq.{getD-set-same, getD-set-other, getD-take, ext-getD}
 
 -- from `start` up to `at` the elements are those that f gives, the others are as before
 pub record Filled (f : ℕ → ℕ) (before : List ℕ) (start at : ℕ) (after : List ℕ) : Type 0 where
@@ -33,19 +33,6 @@ module _ (f : ℕ → ℕ) (before : List ℕ) (start : ℕ) where
     where
       other : (n : ℕ) → (n ≡ at → ⊥) → getD next n 0 ≡ getD after n 0
       other n d = ap (λ (list : List ℕ). getD list n 0) sets ∙ getD-set-other after at n value 0 d
-
--- a list that is copied over the front of another
-pub filled-front : (list before after : List ℕ) (at : ℕ) → at ≡ length list → length list ≤ length before → Filled (λ (n : ℕ). getD list n 0) before 0 at after
-    → after ≡ list ++ drop (length list) before
-filled-front list before after at e fits F =
-    ext-getD 0 after (list ++ drop (length list) before)
-    (F .size ∙ sym (length-front before list (length list) (sym (length-take-le (length list) before fits))))
-    (λ n h. elim (decLt n (length list)) [
-      | yes l ↦ F .done n (omega arith) (omega arith) ∙ sym (List·getD-append list (drop (length list) before) 0 n l)
-      | no l ↦ F .rest n (omega arith)
-          ∙ ap (λ (m : ℕ). getD before m 0) (omega arith) ∙ sym (getD-drop (length list) before (n - length list) 0)
-          ∙ sym (getD-append-add list (drop (length list) before) (n - length list) 0) ∙ ap (λ (m : ℕ). getD (list ++ drop (length list) before) m 0) (omega arith)
-    ])
 
 pub filled-before : (f : ℕ → ℕ) (before after : List ℕ) (start at : ℕ) → Filled f before start at after → take start after ≡ take start before
 filled-before f before after start at F =

@@ -8,9 +8,9 @@ ghost use Rattle.reed_solomon.specs.Outcome.{DecodeOutcome};
 ghost use Rattle.reed_solomon.specs.Places.{Fitting, WordRepaired, Repaired};
 use crate::Decoded;
 use crate::Decoding;
-use crate::octets::copy_front;
-use crate::octets::gathered;
-use crate::octets::put_repaired;
+use crate::symbols::gathered;
+use crate::symbols::put_repaired;
+use octets::copy_front;
 use refusals::Verdict;
 use refusals::WordRefusal;
 

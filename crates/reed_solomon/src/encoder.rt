@@ -7,7 +7,7 @@ ghost use Rattle.reed_solomon.specs.Working.{RowsDone, ChecksPut};
 ghost use Rattle.reed_solomon.specs.Outcome.{EncodeOutcome};
 use crate::checks::stepped;
 use crate::checks::table_of;
-use crate::octets::copy_front;
+use octets::copy_front;
 use refusals::Verdict;
 
 // Octet n enters word n mod depth: a counter that starts anew spares a division for each octet.

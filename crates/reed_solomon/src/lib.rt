@@ -2,7 +2,7 @@
 mod checks;
 mod decoder;
 mod encoder;
-mod octets;
+mod symbols;
 mod table_16;
 mod table_8;
 

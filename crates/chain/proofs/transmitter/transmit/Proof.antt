@@ -3,7 +3,7 @@ use Prim.Native.Nat.{_≤_}
 use native.Mathlib.Omega.{arith}
 use lib.ListN.{length}
 use borrow.Author.Needs.{needs}
-use Rattle.chain.proofs.Transmissions.{marker-fits, marker-room, never-refused, block-fits, lent-within, transmit-refuses, transmit-accepts}
+use Rattle.chain.proofs.Transmissions.{marker-fits, never-refused, block-fits, lent-within, transmit-refuses, transmit-accepts}
 use Rattle.chain.proofs.transmitter.transmit.Statement.{statement}
 use Rattle.chain.proofs.transmitter.transmit.Tie as tie
 
@@ -56,9 +56,7 @@ slice-aggregate-copy-front : tie.Need-slice-aggregate-copy-front
 slice-aggregate-copy-front c = search needs
 
 copy-front-requires : tie.Need-copy-front-requires
-copy-front-requires c κs =
-    let a = c .before .before .before .before .before .before .before .before .before .before .before .before .before .args in
-    marker-room (a .e) (a .depth) (a .fill) (a .randomised) (a .frame .now) (a .marked .now) (c .before .before .before .before .before .before .before .before .before .before .transmit-parameters .result) (c .before .before .before .before .before .before .before .before .before .before .transmit-parameters .ensures) (c .before .before .before .before .before .before .before .before .enum-told .given .1) _ _ (c .before .before .before .before .before .before .encode .ensures)
+copy-front-requires c κs = search needs
 
 sub-randomise-if : tie.Need-sub-randomise-if
 sub-randomise-if c =

@@ -7,7 +7,7 @@ use lib.ListN.{length, take}
 use lib.Seq.{length-take-le}
 use Rattle.refusals.specs.Calls.{decodeParameters}
 use Rattle.refusals.proofs.Verdicts.{passed}
-use Rattle.reed_solomon.proofs.Deliveries.{LegalBlock, legal-block, frame-most, fitting, same-outcome, refused-parameter, refused-word, front-fits, frame-within, delivers}
+use Rattle.reed_solomon.proofs.Deliveries.{LegalBlock, legal-block, frame-most, fitting, same-outcome, refused-parameter, refused-word, frame-within, delivers}
 use Rattle.reed_solomon.proofs.decoder.decode.Statement.{statement}
 use Rattle.reed_solomon.proofs.decoder.decode.Tie as tie
 
@@ -52,10 +52,10 @@ slice-aggregate-copy-front : tie.Need-slice-aggregate-copy-front
 slice-aggregate-copy-front c = sym (length-take-le _ _ (frame-within (c .before .before .before .before .before .before .before .before .before .before .args .e) (c .before .before .before .before .before .before .before .before .before .before .args .depth) (c .before .before .before .before .before .before .before .before .before .before .args .fill) (c .before .before .before .before .before .before .before .before .before .before .args .s) (c .before .before .before .before .before .before .before .before .before .before .args .block .now) (c .before .before .before .before .before .before .before .before .before .before .args .frame .now) (passed (decodeParameters (c .before .before .before .before .before .before .before .before .before .before .args .e) (c .before .before .before .before .before .before .before .before .before .before .args .depth) (c .before .before .before .before .before .before .before .before .before .before .args .fill) (c .before .before .before .before .before .before .before .before .before .before .args .s) (length (c .before .before .before .before .before .before .before .before .before .before .args .block .now)) (length (c .before .before .before .before .before .before .before .before .before .before .args .frame .now))) (c .before .before .before .before .before .before .before .decode-parameters .result) (c .before .before .before .before .before .enum-told .given .1) (c .before .before .before .before .before .before .before .decode-parameters .ensures)) (c .before .before .before .repair-words .result .words) (c .before .before .before .repair-words .result .counts) (c .before .before .before .repair-words .result .total) _ _ (c .before .before .before .repair-words .ensures) refl))
 
 copy-front-requires : tie.Need-copy-front-requires
-copy-front-requires c κs = front-fits _ _ (frame-within (c .before .before .before .before .before .before .before .before .before .before .before .args .e) (c .before .before .before .before .before .before .before .before .before .before .before .args .depth) (c .before .before .before .before .before .before .before .before .before .before .before .args .fill) (c .before .before .before .before .before .before .before .before .before .before .before .args .s) (c .before .before .before .before .before .before .before .before .before .before .before .args .block .now) (c .before .before .before .before .before .before .before .before .before .before .before .args .frame .now) (passed (decodeParameters (c .before .before .before .before .before .before .before .before .before .before .before .args .e) (c .before .before .before .before .before .before .before .before .before .before .before .args .depth) (c .before .before .before .before .before .before .before .before .before .before .before .args .fill) (c .before .before .before .before .before .before .before .before .before .before .before .args .s) (length (c .before .before .before .before .before .before .before .before .before .before .before .args .block .now)) (length (c .before .before .before .before .before .before .before .before .before .before .before .args .frame .now))) (c .before .before .before .before .before .before .before .before .decode-parameters .result) (c .before .before .before .before .before .before .enum-told .given .1) (c .before .before .before .before .before .before .before .before .decode-parameters .ensures)) (c .before .before .before .before .repair-words .result .words) (c .before .before .before .before .repair-words .result .counts) (c .before .before .before .before .repair-words .result .total) _ _ (c .before .before .before .before .repair-words .ensures) refl)
+copy-front-requires c κs = search needs
 
 same-length : tie.Need-same-length
-same-length c = delivers (c .before .before .before .before .before .before .before .before .before .before .before .before .before .before .before .args .e) (c .before .before .before .before .before .before .before .before .before .before .before .before .before .before .before .args .depth) (c .before .before .before .before .before .before .before .before .before .before .before .before .before .before .before .args .fill) (c .before .before .before .before .before .before .before .before .before .before .before .before .before .before .before .args .s) (c .before .before .before .before .before .before .before .before .before .before .before .before .before .before .before .args .block .now) (c .before .before .before .before .before .before .before .before .before .before .before .before .before .before .before .args .frame .now) (passed (decodeParameters (c .before .before .before .before .before .before .before .before .before .before .before .before .before .before .before .args .e) (c .before .before .before .before .before .before .before .before .before .before .before .before .before .before .before .args .depth) (c .before .before .before .before .before .before .before .before .before .before .before .before .before .before .before .args .fill) (c .before .before .before .before .before .before .before .before .before .before .before .before .before .before .before .args .s) (length (c .before .before .before .before .before .before .before .before .before .before .before .before .before .before .before .args .block .now)) (length (c .before .before .before .before .before .before .before .before .before .before .before .before .before .before .before .args .frame .now))) (c .before .before .before .before .before .before .before .before .before .before .before .before .decode-parameters .result) (c .before .before .before .before .before .before .before .before .before .before .enum-told .given .1) (c .before .before .before .before .before .before .before .before .before .before .before .before .decode-parameters .ensures)) (c .before .before .before .before .before .before .before .before .repair-words .result .words) (c .before .before .before .before .before .before .before .before .repair-words .result .counts) (c .before .before .before .before .before .before .before .before .repair-words .result .total) _ _ (c .before .before .before .before .before .before .before .before .repair-words .ensures) (c .before .before .before .before .before .before .if1 .left) refl _ (c .before .before .before .copy-front .ensures) .size .0
+same-length c = search needs
 
 returns-3 : tie.Need-returns-3
 returns-3 c =

@@ -2,7 +2,7 @@
 use native.Mathlib.Omega.{arith}
 use lib.ListN.{length}
 use Rattle.refusals.proofs.Legal.{LegalWords}
-use Rattle.reed_solomon.proofs.CodedBlocks.{verdict-legal, checks-fit, checks-room, encode-refuses, encode-accepts}
+use Rattle.reed_solomon.proofs.CodedBlocks.{verdict-legal, checks-room, encode-refuses, encode-accepts}
 use borrow.Author.Needs.{needs}
 use Rattle.reed_solomon.proofs.encoder.encode.Statement.{statement}
 use Rattle.reed_solomon.proofs.encoder.encode.Tie as tie
@@ -28,8 +28,7 @@ rows-of-requires c κs =
     (omega (arith, legal .some), legal .deep)
 
 copy-front-requires : tie.Need-copy-front-requires
-copy-front-requires c κs =
-    omega (arith, checks-fit _ _ _ _ _ (verdict-legal (c .before .before .before .before .before .before .before .before .before .args .e) (c .before .before .before .before .before .before .before .before .before .args .depth) (c .before .before .before .before .before .before .before .before .before .args .fill) (length (c .before .before .before .before .before .before .before .before .before .args .frame .now)) (length (c .before .before .before .before .before .before .before .before .before .args .block .now)) (c .before .before .before .before .before .before .encode-parameters .result) (c .before .before .before .before .enum-told .given .1) (c .before .before .before .before .before .before .encode-parameters .ensures)))
+copy-front-requires c κs = search needs
 
 put-checks-requires : tie.Need-put-checks-requires
 put-checks-requires c κs = checks-room _ _ _ (c .before .before .before .before .before .before .before .before .before .before .before .before .before .args .frame .now) (c .before .before .before .before .before .before .before .before .before .before .before .before .before .args .block .now) _ (verdict-legal (c .before .before .before .before .before .before .before .before .before .before .before .before .before .args .e) (c .before .before .before .before .before .before .before .before .before .before .before .before .before .args .depth) (c .before .before .before .before .before .before .before .before .before .before .before .before .before .args .fill) (length (c .before .before .before .before .before .before .before .before .before .before .before .before .before .args .frame .now)) (length (c .before .before .before .before .before .before .before .before .before .before .before .before .before .args .block .now)) (c .before .before .before .before .before .before .before .before .before .before .encode-parameters .result) (c .before .before .before .before .before .before .before .before .enum-told .given .1) (c .before .before .before .before .before .before .before .before .before .before .encode-parameters .ensures)) (c .before .before .before .copy-front .ensures)

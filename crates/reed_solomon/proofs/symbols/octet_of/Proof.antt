@@ -4,8 +4,8 @@ use Prim.Native.Nat.{ℕ, _+_, _*_, _^_, _≤_, _<_}
 use native.Mathlib.Nat.{add-le-add, mul-le-mul, lt-of-le-of-lt}
 use native.Mathlib.Omega.{arith}
 use lib.Dec.{lit<}
-use Rattle.reed_solomon.proofs.octets.octet_of.Statement.{statement}
-use Rattle.reed_solomon.proofs.octets.octet_of.Tie as tie
+use Rattle.reed_solomon.proofs.symbols.octet_of.Statement.{statement}
+use Rattle.reed_solomon.proofs.symbols.octet_of.Tie as tie
 
 product-fits : {a b : ℕ} → a ≤ 255 → b ≤ 8 → a * b < 2 ^ 64
 product-fits ha hb = lt-of-le-of-lt (mul-le-mul ha hb) (lit< tt)

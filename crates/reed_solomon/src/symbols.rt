@@ -1,8 +1,7 @@
 // A block's octets and its words' symbols: symbol k of word w is octet k depth + w.
 ghost use mathlib.Core.Path.{_≡_};
-ghost use mathlib.Core.List.{_++_};
 ghost use Prim.Native.Nat.{_+_, _*_, _≤_, _<_};
-ghost use lib.ListN.{length, take, drop};
+ghost use lib.ListN.{length, take};
 ghost use Rattle.reed_solomon.specs.Blocks.{sentFrom};
 ghost use Rattle.reed_solomon.specs.Places.{Put};
 
@@ -40,16 +39,5 @@ pub(crate) fn put_repaired(
 {
     for k in 0..n {
         frame[octet_of(k, depth, w)] = sent[k] ^ errors[k];
-    }
-}
-
-// A list of octets over the front of another.
-pub(crate) fn copy_front(octets: &[u8], out: &mut [u8])
-    requires { ⌜ length (now octets) ≤ length (now out) ⌝ }
-    ensures { λ _. ⌜ now (out .exit) ≡ now (octets .entry) ++ drop (length (now (octets .entry))) (now (out .entry)) ⌝ }
-{
-    let n = octets.len();
-    for at in 0..n {
-        out[at] = octets[at];
     }
 }

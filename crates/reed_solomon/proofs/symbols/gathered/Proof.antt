@@ -7,8 +7,8 @@ use lib.ListN.{length, take, length-set, replicate}
 use Rattle.reed_solomon.specs.Blocks.{sentFrom}
 use Rattle.reed_solomon.proofs.Interleaving.{place-below}
 use Rattle.reed_solomon.proofs.Gathering.{gathered-starts, gathered-turn}
-use Rattle.reed_solomon.proofs.octets.gathered.Statement.{statement}
-use Rattle.reed_solomon.proofs.octets.gathered.Tie as tie
+use Rattle.reed_solomon.proofs.symbols.gathered.Statement.{statement}
+use Rattle.reed_solomon.proofs.symbols.gathered.Tie as tie
 
 abbrev Inv-loop : tie.InvT-loop
 Inv-loop block depth w n symbols₀ k₀ symbols k = (k ≤ n) × (length symbols ≡ 255) × (take k symbols ≡ sentFrom depth block w 0 k)

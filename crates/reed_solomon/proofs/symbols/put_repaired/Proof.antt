@@ -7,8 +7,8 @@ use lib.ListN.{length}
 use Rattle.reed_solomon.specs.Places.{Put}
 use Rattle.reed_solomon.proofs.Interleaving.{place-below}
 use Rattle.reed_solomon.proofs.Gathering.{put-starts, put-turn}
-use Rattle.reed_solomon.proofs.octets.put_repaired.Statement.{statement}
-use Rattle.reed_solomon.proofs.octets.put_repaired.Tie as tie
+use Rattle.reed_solomon.proofs.symbols.put_repaired.Statement.{statement}
+use Rattle.reed_solomon.proofs.symbols.put_repaired.Tie as tie
 
 abbrev Inv-loop : tie.InvT-loop
 Inv-loop sent errors depth w n frame₀ k₀ frame k = (k ≤ n) × (length frame ≡ length frame₀) × Put depth w k sent errors frame₀ frame

@@ -2,8 +2,8 @@
 use Rattle.chain.proofs.Opening.{randomise-accepts, flag-set, flag-unset}
 use mathlib.Core.Path.{_∙_}
 use borrow.Author.Needs.{needs}
-use Rattle.chain.proofs.octets.randomise_if.Statement.{statement}
-use Rattle.chain.proofs.octets.randomise_if.Tie as tie
+use Rattle.chain.proofs.blocks.randomise_if.Statement.{statement}
+use Rattle.chain.proofs.blocks.randomise_if.Tie as tie
 
 randomise-requires : tie.Need-randomise-requires
 randomise-requires c κs = search needs

@@ -1,20 +1,9 @@
-// Octets of a block: copied, and randomised if that is asked.
+// A block randomised if that is asked, where it stands or into another list.
 ghost use mathlib.Core.Path.{_≡_};
-ghost use mathlib.Core.List.{_++_};
 ghost use Prim.Native.Nat.{_≤_};
-ghost use lib.ListN.{length, take, drop};
+ghost use lib.ListN.{length, take};
 ghost use Rattle.chain.specs.Outcome.{randomisedIf};
-
-// A list of octets over the front of another.
-pub(crate) fn copy_front(octets: &[u8], out: &mut [u8])
-    requires { ⌜ length (now octets) ≤ length (now out) ⌝ }
-    ensures { λ _. ⌜ now (out .exit) ≡ now (octets .entry) ++ drop (length (now (octets .entry))) (now (out .entry)) ⌝ }
-{
-    let n = octets.len();
-    for at in 0..n {
-        out[at] = octets[at];
-    }
-}
+use octets::copy_front;
 
 // Of a block's length the randomiser refuses nothing.
 pub(crate) fn randomise_if(asked: bool, block: &mut [u8])
