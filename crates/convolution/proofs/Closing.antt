@@ -7,7 +7,7 @@ use lib.ListN.{length, getD, take, drop, set, length-append, drop-of-length-le}
 use lib.Seq.{length-take-le, take-length, set-split, getD-take}
 use Rattle.refusals.specs.Sizes.{octetsFor}
 use Rattle.convolution.specs.Coder.{lowBits, bitsOf, firstOctet}
-use Rattle.convolution.specs.Steps.{Packed, Run, unclosed}
+use Rattle.convolution.specs.Working.{Packed, Run, unclosed}
 use Rattle.convolution.specs.declared.State.{State}
 use Rattle.convolution.proofs.Bits.{low-length, bits-length}
 use Rattle.convolution.proofs.Packing.{packed-octets, packed-short}

@@ -17,7 +17,7 @@ use Rattle.refusals.proofs.Verdicts.{parameter-nonzero, same-verdict, passed}
 use Rattle.refusals.specs.declared.Verdict.the-variants as verdict
 use Rattle.convolution.specs.declared.Convolved.the-variants.{Done, Refused}
 use Rattle.convolution.specs.Outcome.{symbolsOf, ConvolveOutcome}
-use Rattle.convolution.specs.Steps.{Packed}
+use Rattle.convolution.specs.Working.{Packed}
 
 -- What is known of the numbers once no check is due.
 pub record Legal (r octets symbols : ℕ) : Type 0 where

@@ -9,7 +9,7 @@ use lib.ListN.{length, getD, replicate, take, drop, set, length-append}
 use lib.Seq.{take-suc-set, drop-cons, length-take-le}
 use Rattle.refusals.specs.Sizes.{period}
 use Rattle.convolution.specs.Coder.{lowBits, bitsOf, g1, g2, connected, inverted, c1Patterns, c2Patterns, patternAt, sent, symbolsAt, symbolsFrom, nextRegister, nextPlace}
-use Rattle.convolution.specs.Steps.{stream, Rows, Filled, Ready, Kept}
+use Rattle.convolution.specs.Working.{stream, Rows, Filled, Ready, Kept}
 use Rattle.convolution.specs.declared.State.{State}
 use Rattle.convolution.proofs.Bits.{low-mod, low-split, low-length, bits-append, bits-length}
 

@@ -7,7 +7,7 @@ use lib.ListN.{getD}
 use Rattle.refusals.specs.Order.{OneOf}
 use Rattle.refusals.specs.Sizes.{period, rates, symbolCount}
 use Rattle.convolution.specs.Coder.{c1Patterns, c2Patterns}
-use Rattle.convolution.specs.Steps.{row, Rows}
+use Rattle.convolution.specs.Working.{row, Rows}
 use Rattle.convolution.proofs.Count.{each-rate}
 
 abbrev pub rowsOf : List (List ℕ) → List (List ℕ)

@@ -1,4 +1,4 @@
 -- The convolutional coder: what it sends, what a call answers, and how the private functions go.
 pub mod Coder
 pub mod Outcome
-pub mod Steps
+pub mod Working

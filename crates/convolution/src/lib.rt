@@ -6,7 +6,7 @@ ghost use Rattle.refusals.specs.Order.{OneOf};
 ghost use Rattle.refusals.specs.Sizes.{rates, symbolCount, octetsFor};
 ghost use Rattle.convolution.specs.Coder.{lowBits, bitsOf, g1, g2, ones, inverted, firstOctet, symbolsFrom};
 ghost use Rattle.convolution.specs.Outcome.{ConvolveOutcome};
-ghost use Rattle.convolution.specs.Steps.{stream, unclosed, Rows, Sound, Gathered, Took, Filled, Ready, Kept, Run, Packed};
+ghost use Rattle.convolution.specs.Working.{stream, unclosed, Rows, Sound, Gathered, Took, Filled, Ready, Kept, Run, Packed};
 use refusals::Parameter;
 use refusals::Verdict;
 

@@ -1,10 +1,8 @@
 -- What document 01 says of the sequence and of the randomiser, of any outcome that the contracts permit.
 use mathlib.Core.Path.{_≡_, refl, sym, ap, ap₂, _∙_}
 use mathlib.Core.List.{List, [], _∷_}
-use Prim.Native.Nat.{ℕ, zero, suc, _+_, _*_, _%_, _<_}
-use native.Mathlib.Nat.{add-comm, zero-add}
+use Prim.Native.Nat.{ℕ, zero, suc, _+_, _%_}
 use native.Mathlib.Numerals.{add-one}
-use native.Mathlib.Omega.{arith}
 use lib.Bits.{bitXor, xor-self, xor-zero-r}
 use lib.ListN.{getD}
 use Rattle.refusals.specs.Numbers.{verdictNumber}
@@ -12,7 +10,7 @@ use Rattle.refusals.specs.declared.Verdict.{Verdict}
 use Rattle.field.proofs.Sum.{xor-assoc}
 use Rattle.randomiser.specs.Sequence.{bitAfter, bitOf, bitFrom, numberFrom, eightOn, sequenceOctet, addedFrom, randomised}
 use Rattle.randomiser.specs.Outcome.{NextOutcome, RandomiseOutcome}
-use Rattle.randomiser.proofs.Registers.{goes-on, number-held, sequence-goes-on, sequence-starts}
+use Rattle.randomiser.proofs.Registers.{goes-on, sequence-goes-on, sequence-starts}
 
 -- The rule, as the document prints it: bit n+8 is the sum modulo 2 of bits n, n+3, n+5 and n+7.
 pub rule : (register n : ℕ)

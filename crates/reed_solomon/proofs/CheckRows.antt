@@ -21,7 +21,7 @@ use Rattle.codewords.proofs.Checks.{push, checksFrom, checks, length-push, leng
 use Rattle.codewords.proofs.LineWords.{conversion-++}
 use Rattle.codewords.proofs.Codewords.{encoded-codeword}
 use Rattle.reed_solomon.specs.Blocks.{sentFrom}
-use Rattle.reed_solomon.specs.Working.{product, entered, inRow, rowAfter}
+use Rattle.reed_solomon.specs.EncoderWorking.{product, entered, inRow, rowAfter}
 use Rattle.reed_solomon.proofs.StepTables.{toLine-zero}
 use Rattle.reed_solomon.proofs.Interleaving.{sent-length, sent-octets, sent-++}
 

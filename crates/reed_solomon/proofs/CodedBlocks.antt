@@ -1,10 +1,8 @@
 -- A block that holds the frame and then the rows of checks, interleaved, is coded; so encode keeps what it promises.
 use mathlib.Core.Path.{_≡_, refl, sym, ap, ap₂, _∙_, subst}
-use mathlib.Core.Logic.{_≢_, inl, inr}
 use mathlib.Core.List.{List, [], _++_}
 use Prim.Native.Nat.{ℕ, _+_, _-_, _*_, _≤_, _<_}
 use native.Mathlib.Nat.{mul-le-mul-right}
-use native.Mathlib.Decide.{ℕ-discrete}
 use native.Mathlib.Omega.{arith}
 use lib.ListN.{length, take, getD}
 use lib.Seq.{getD-take}
@@ -23,7 +21,7 @@ use Rattle.refusals.proofs.Verdicts.{parameter-nonzero, same-verdict, passed}
 use Rattle.codewords.specs.Words.{Codeword, withFill}
 use Rattle.reed_solomon.specs.Blocks.{sentFrom, wordOf}
 use Rattle.reed_solomon.specs.Outcome.{Coded, EncodeOutcome}
-use Rattle.reed_solomon.specs.Working.{inRow, StrengthTable, rowAfter, RowsDone, ChecksPut}
+use Rattle.reed_solomon.specs.EncoderWorking.{inRow, StrengthTable, rowAfter, RowsDone, ChecksPut}
 use Rattle.reed_solomon.proofs.Interleaving.{sent-is, sent-++, sent-information, place-below}
 use Rattle.reed_solomon.proofs.CheckRows.{long-row, row-front-size, row-codeword}
 

@@ -1,30 +1,30 @@
 -- The conditions of acceptance on encode and decode, of any outcome that their contracts permit, over all E, I, Q and s at once.
-use mathlib.Core.Path.{_≡_, refl, sym, ap, _∙_, subst}
-use mathlib.Core.Logic.{_↔_, _≢_, inl, inr}
+use mathlib.Core.Path.{_≡_, sym, ap, _∙_, subst}
+use mathlib.Core.Logic.{_↔_}
 use mathlib.Core.List.{List}
 use Prim.Native.Nat.{ℕ, _+_, _-_, _*_, _/_, _%_, _≤_, _<_}
 use native.Mathlib.Nat.{div-add-mod', mod-lt, div-lt-iff-lt-mul, zero-add}
 use native.Mathlib.Omega.{arith}
-use native.Mathlib.Decide.{decLt, ℕ-discrete}
-use lib.ListN.{length, take, getD, replicate, length-replicate}
+use native.Mathlib.Decide.{decLt}
+use lib.ListN.{length, getD, replicate, length-replicate}
 use lib.Seq.{take-at, getD-take, getD-append-add, ext-getD}
 use Rattle.refusals.specs.Order.{FirstOf}
-use Rattle.refusals.specs.Sizes.{information, frameLength, blockLength}
+use Rattle.refusals.specs.Sizes.{information}
 use Rattle.refusals.specs.Numbers.{verdictNumber}
 use Rattle.refusals.specs.Calls.{encodeOrder, decodeParameters}
 use Rattle.refusals.specs.declared.Verdict.{Verdict}
 use Rattle.refusals.proofs.Orders.{Clear, accepted-clear, clear-accepted}
-use Rattle.codewords.specs.Words.{Good, withFill, differing}
+use Rattle.codewords.specs.Words.{Good, differing}
 use Rattle.codewords.proofs.LineWords.{differing-symmetric}
 use Rattle.codewords.proofs.Codewords.{good-unique, good-more-allowance}
 use Rattle.reed_solomon.specs.declared.Decoded.{Decoded}
 use Rattle.reed_solomon.specs.declared.Decoded.the-variants.{Delivered}
 use Rattle.reed_solomon.specs.Blocks.{wordOf, sentFrom}
-use Rattle.reed_solomon.specs.Outcome.{Coded, EncodeOutcome, Delivery, Lost, LowestLost, DecodeOutcome, decodedNumber, decodedValue}
-use Rattle.reed_solomon.proofs.Interleaving.{sent-at, place-below}
+use Rattle.reed_solomon.specs.Outcome.{Coded, EncodeOutcome, Delivery, DecodeOutcome, decodedNumber, decodedValue}
+use Rattle.reed_solomon.proofs.Interleaving.{sent-at}
 use Rattle.reed_solomon.proofs.Deliveries.{LegalBlock, legal-block, decode-numbers}
 use Rattle.reed_solomon.proofs.CodedBlocks.{encode-numbers}
-use Rattle.reed_solomon.proofs.Deliverable.{Passed, Order, SomeLost, delivered-is, all-found, some-lost, accepted-passed, number-is, same-counts, same-total, same-frame}
+use Rattle.reed_solomon.proofs.Deliverable.{Passed, Order, delivered-is, all-found, accepted-passed, number-is, same-counts, same-total, same-frame}
 
 -- ---- condition 3
 

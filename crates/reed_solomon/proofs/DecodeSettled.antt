@@ -1,16 +1,14 @@
 -- decode is settled: two outcomes that its contract permits for the same inputs are equal, answer, report and frame.
 use mathlib.Core.Path.{_≡_, refl, sym, ap, _∙_, subst}
-use mathlib.Core.Logic.{_≢_}
 use mathlib.Core.List.{List}
-use Prim.Native.Nat.{ℕ, _≤_, _<_}
+use Prim.Native.Nat.{ℕ, _≤_}
 use native.Mathlib.Omega.{arith}
 use native.Mathlib.Decide.{ℕ-discrete, decLt}
 use lib.ListN.{length, replicate}
-use Rattle.refusals.specs.Numbers.{parameterNumber}
 use Rattle.refusals.specs.declared.Parameter.{Parameter}
 use Rattle.refusals.specs.declared.WordRefusal.the-variants.{Parameters, NoCodeword}
 use Rattle.refusals.proofs.Settled.{parameter-known}
-use Rattle.refusals.proofs.Verdicts.{parameter-nonzero, parameter-not-ten}
+use Rattle.refusals.proofs.Verdicts.{parameter-not-ten}
 use Rattle.reed_solomon.specs.declared.Decoded.{Decoded}
 use Rattle.reed_solomon.specs.declared.Decoded.the-variants.{Delivered, Refused}
 use Rattle.reed_solomon.specs.Outcome.{LowestLost, DecodeOutcome, Delivery, decodedNumber}

@@ -1,27 +1,26 @@
 -- What any permitted outcome of decode says: which blocks are delivered, and that a delivery is settled.
-use mathlib.Core.Path.{_≡_, refl, sym, ap, ap₂, _∙_, subst}
-use mathlib.Core.Logic.{_≢_, _⊎_, inl, inr}
-use mathlib.Core.List.{List, [], _∷_}
+use mathlib.Core.Path.{_≡_, refl, sym, ap, _∙_, subst}
+use mathlib.Core.Logic.{inl, inr}
+use mathlib.Core.List.{List}
 use Prim.Native.Nat.{ℕ, _+_, _-_, _*_, _/_, _%_, _≤_, _<_}
 use native.Mathlib.Nat.{div-add-mod', mod-lt, div-lt-iff-lt-mul}
 use native.Mathlib.Omega.{arith}
 use native.Mathlib.Decide.{decLt}
-use lib.ListN.{length, getD, replicate}
+use lib.ListN.{length, getD}
 use lib.Seq.{ext-getD}
 use Rattle.refusals.specs.Order.{FirstOf}
 use Rattle.refusals.specs.Sizes.{information, frameLength}
-use Rattle.refusals.specs.Numbers.{parameterNumber}
 use Rattle.refusals.specs.Calls.{decodeParameters, decodeOrder}
 use Rattle.refusals.specs.declared.WordRefusal.the-variants.{Parameters, NoCodeword}
 use Rattle.refusals.proofs.Orders.{first-unique, first-accepts, first-passes}
-use Rattle.refusals.proofs.Verdicts.{parameter-nonzero, parameter-not-ten}
-use Rattle.codewords.specs.Words.{Good, differing}
+use Rattle.refusals.proofs.Verdicts.{parameter-nonzero}
+use Rattle.codewords.specs.Words.{differing}
 use Rattle.codewords.proofs.Codewords.{good-unique, good-more-allowance}
 use Rattle.reed_solomon.specs.declared.Decoded.{Decoded}
 use Rattle.reed_solomon.specs.declared.Decoded.the-variants.{Delivered, Refused}
 use Rattle.reed_solomon.specs.Blocks.{wordOf, sum}
-use Rattle.reed_solomon.specs.Outcome.{Delivery, Lost, LowestLost, DecodeOutcome, decodedNumber, decodedValue}
-use Rattle.reed_solomon.proofs.Deliveries.{LegalBlock, legal-block, decode-numbers}
+use Rattle.reed_solomon.specs.Outcome.{Delivery, Lost, decodedNumber}
+use Rattle.reed_solomon.proofs.Deliveries.{decode-numbers}
 
 -- Only a delivery has number 0.
 pub delivered-is : (a : Decoded) → decodedNumber a ≡ 0 → a ≡ Delivered

@@ -1,8 +1,8 @@
 -- What `decode` answers: refused for a parameter, refused for the lowest lost word, or delivered.
-use mathlib.Core.Path.{_≡_, refl, sym, ap, ap₂, _∙_, subst}
+use mathlib.Core.Path.{_≡_, refl, sym, ap, _∙_, subst}
 use mathlib.Core.Logic.{inl, inr}
-use mathlib.Core.List.{List, [], _∷_}
-use Prim.Native.Nat.{ℕ, zero, suc, _+_, _-_, _*_, _≤_, _<_}
+use mathlib.Core.List.{List, []}
+use Prim.Native.Nat.{ℕ, _+_, _-_, _*_, _≤_, _<_}
 use native.Mathlib.Nat.{mul-le-mul}
 use native.Mathlib.Omega.{arith}
 use native.Mathlib.Decide.{decLt}
@@ -10,9 +10,9 @@ use lib.ListN.{length, take, drop, getD, replicate, List·getD-append}
 use lib.Seq.{getD-take, length-take-le}
 use Rattle.octets.specs.Copies.{copiedOver}
 use Rattle.octets.proofs.Laws.{copied-fitting, copied-length}
-use Rattle.refusals.specs.Order.{FirstOf, OneOf}
-use Rattle.refusals.specs.Sizes.{strengths, depths, information, frameLength, blockLength}
-use Rattle.refusals.specs.Numbers.{verdictNumber, parameterNumber}
+use Rattle.refusals.specs.Order.{FirstOf}
+use Rattle.refusals.specs.Sizes.{information, frameLength, blockLength}
+use Rattle.refusals.specs.Numbers.{verdictNumber}
 use Rattle.refusals.specs.Calls.{decodeParameters}
 use Rattle.refusals.specs.declared.Parameter.{Parameter}
 use Rattle.refusals.specs.declared.Verdict.{Verdict}
@@ -24,9 +24,9 @@ use Rattle.refusals.proofs.Legal.{LegalWords, legal-words}
 use Rattle.codewords.specs.Words.{Good, differing}
 use Rattle.reed_solomon.specs.declared.Decoded.{Decoded}
 use Rattle.reed_solomon.specs.declared.Decoded.the-variants.{Delivered, Refused}
-use Rattle.reed_solomon.specs.Blocks.{wordOf, sum}
-use Rattle.reed_solomon.specs.Outcome.{Delivery, Lost, LowestLost, DecodeOutcome}
-use Rattle.reed_solomon.specs.Places.{Fitting, HasCodeword, Repaired}
+use Rattle.reed_solomon.specs.Blocks.{wordOf}
+use Rattle.reed_solomon.specs.Outcome.{Delivery, DecodeOutcome}
+use Rattle.reed_solomon.specs.DecoderWorking.{Fitting, HasCodeword, Repaired}
 use Rattle.reed_solomon.proofs.Interleaving.{place-below}
 
 -- ---- what passed parameters say

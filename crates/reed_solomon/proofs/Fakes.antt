@@ -11,7 +11,6 @@ use Rattle.refusals.specs.declared.Verdict.{Verdict}
 use Rattle.codewords.specs.Words.{Good, differing}
 use Rattle.codewords.proofs.LineWords.{differing-self}
 use Rattle.reed_solomon.specs.declared.Decoded.{Decoded}
-use Rattle.reed_solomon.specs.declared.Decoded.the-variants.{Delivered}
 use Rattle.reed_solomon.specs.Blocks.{wordOf}
 use Rattle.reed_solomon.specs.Outcome.{EncodeOutcome, DecodeOutcome, decodedNumber}
 use Rattle.reed_solomon.proofs.Deliverable.{Passed}

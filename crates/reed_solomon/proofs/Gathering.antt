@@ -1,7 +1,7 @@
 -- One turn of the loops that take a word's symbols out of a block and put its repaired symbols into a frame.
 use mathlib.Core.Path.{_≡_, refl, sym, ap, ap₂, _∙_}
 use mathlib.Core.List.{List, [], _∷_, _++_}
-use Prim.Native.Nat.{ℕ, zero, suc, _+_, _*_, _≤_, _<_}
+use Prim.Native.Nat.{ℕ, _+_, _*_, _<_}
 use native.Mathlib.Nat.{zero-add}
 use native.Mathlib.Numerals.{add-one}
 use native.Mathlib.Decide.{ℕ-discrete}
@@ -10,7 +10,7 @@ use lib.Bits.{bitXor}
 use lib.ListN.{length, take, getD, set, length-set}
 use lib.Seq.{take-suc-set, getD-set-same, getD-set-other}
 use Rattle.reed_solomon.specs.Blocks.{sentFrom}
-use Rattle.reed_solomon.specs.Places.{Put}
+use Rattle.reed_solomon.specs.DecoderWorking.{Put}
 use Rattle.reed_solomon.proofs.Interleaving.{sent-++, place-symbol}
 
 pub gathered-starts : (i : ℕ) (block : List ℕ) (w : ℕ) (symbols : List ℕ) → take 0 symbols ≡ sentFrom i block w 0 0

@@ -7,7 +7,7 @@ use native.Mathlib.Decide.{ℕ-discrete}
 use native.Mathlib.Omega.{arith}
 use lib.ListN.{length, getD, set, replicate, length-set, getD-replicate}
 use lib.Seq.{getD-set-same, getD-set-other}
-use Rattle.reed_solomon.specs.Working.{entered, tableOf, Stepped, rowAfter, RowsDone}
+use Rattle.reed_solomon.specs.EncoderWorking.{entered, tableOf, Stepped, rowAfter, RowsDone}
 use Rattle.reed_solomon.proofs.Interleaving.{place-symbol}
 
 -- a row of word w after k symbols, whichever generator the table is of

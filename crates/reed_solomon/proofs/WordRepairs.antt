@@ -1,24 +1,23 @@
 -- A word of a block and its repair: the symbols sent, the codeword found for them, and the places that they take in a frame.
-use mathlib.Core.Path.{_≡_, refl, sym, ap, ap₂, _∙_, subst}
+use mathlib.Core.Path.{_≡_, refl, sym, ap, _∙_, subst}
 use mathlib.Core.Bool.{Bool, true, false, not}
 use borrow.Author.Tests.{not-true, not-false}
-use mathlib.Core.Logic.{_≢_}
-use mathlib.Core.List.{List, [], _∷_, _++_}
+use mathlib.Core.List.{List, [], _∷_}
 use Prim.Native.Nat.{ℕ, zero, suc, _+_, _-_, _*_, _≤_, _<_}
 use native.Mathlib.Omega.{arith}
 use native.Mathlib.Decide.{ℕ-discrete}
 use lib.Bits.{bitXor}
 use lib.ListN.{length, take, getD, set, replicate, length-set, length-replicate}
 use lib.Seq.{getD-take, getD-append-add, getD-set-same, getD-set-other}
-use Rattle.refusals.specs.Sizes.{information, frameLength, blockLength}
+use Rattle.refusals.specs.Sizes.{information}
 use Rattle.refusals.proofs.Legal.{strength-bounds}
 use Rattle.field.specs.Field.{_⊕_}
 use Rattle.field.proofs.Sum.{⊕-is}
 use Rattle.codewords.specs.Words.{withFill, Good, differing}
 use Rattle.words.specs.Outcome.{LegalWord, fillOf, repaired, WordOutcome}
-use Rattle.reed_solomon.specs.Blocks.{sentFrom, wordOf, sum}
+use Rattle.reed_solomon.specs.Blocks.{sentFrom, sum}
 use Rattle.reed_solomon.specs.Outcome.{Lost}
-use Rattle.reed_solomon.specs.Places.{Put, Fitting, HasCodeword, WordRepaired, Sofar}
+use Rattle.reed_solomon.specs.DecoderWorking.{Put, Fitting, HasCodeword, WordRepaired, Sofar}
 use Rattle.reed_solomon.proofs.Interleaving.{sent-length}
 
 -- ---- symbols of a repaired word

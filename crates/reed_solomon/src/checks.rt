@@ -2,7 +2,7 @@
 ghost use Prim.Native.Nat.{_<_};
 ghost use Rattle.refusals.specs.Order.{OneOf};
 ghost use Rattle.refusals.specs.Sizes.{strengths};
-ghost use Rattle.reed_solomon.specs.Working.{StrengthTable, MovedUp, BitAdded, Stepped};
+ghost use Rattle.reed_solomon.specs.EncoderWorking.{StrengthTable, MovedUp, BitAdded, Stepped};
 use crate::table_8::TABLE_8;
 use crate::table_16::TABLE_16;
 

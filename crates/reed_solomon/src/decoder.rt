@@ -1,11 +1,10 @@
 // Decoding of a whole block: each word by itself, and the frame only once the last word is known to be good.
 ghost use mathlib.Core.Path.{_≡_};
-ghost use Prim.Native.Nat.{_+_, _-_, _*_, _≤_, _<_};
+ghost use Prim.Native.Nat.{_+_, _-_, _*_, _<_};
 ghost use lib.ListN.{length, replicate};
-ghost use Rattle.reed_solomon.specs.declared.Decoded.{Decoded};
 ghost use Rattle.reed_solomon.specs.declared.Decoded.the-variants as decoded;
 ghost use Rattle.reed_solomon.specs.Outcome.{DecodeOutcome};
-ghost use Rattle.reed_solomon.specs.Places.{Fitting, WordRepaired, Repaired};
+ghost use Rattle.reed_solomon.specs.DecoderWorking.{Fitting, WordRepaired, Repaired};
 use crate::Decoded;
 use crate::Decoding;
 use crate::symbols::gathered;

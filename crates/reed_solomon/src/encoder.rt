@@ -1,9 +1,7 @@
 // Encoding of a whole frame: its words' checks, and the block with frame and checks.
-ghost use mathlib.Core.Path.{_≡_};
-ghost use mathlib.Core.List.{_++_};
 ghost use Prim.Native.Nat.{_+_, _*_, _≤_, _<_};
 ghost use lib.ListN.{length};
-ghost use Rattle.reed_solomon.specs.Working.{RowsDone, ChecksPut};
+ghost use Rattle.reed_solomon.specs.EncoderWorking.{RowsDone, ChecksPut};
 ghost use Rattle.reed_solomon.specs.Outcome.{EncodeOutcome};
 use crate::checks::stepped;
 use crate::checks::table_of;

@@ -3,7 +3,7 @@ ghost use mathlib.Core.Path.{_≡_};
 ghost use Prim.Native.Nat.{_+_, _*_, _≤_, _<_};
 ghost use lib.ListN.{length, take};
 ghost use Rattle.reed_solomon.specs.Blocks.{sentFrom};
-ghost use Rattle.reed_solomon.specs.Places.{Put};
+ghost use Rattle.reed_solomon.specs.DecoderWorking.{Put};
 
 // The octet of symbol k of word w.
 fn octet_of(k: usize, depth: usize, w: usize) -> usize

@@ -7,7 +7,7 @@ use borrow.Author.Needs.{needs}
 use lib.Seq.{length-take-le}
 use lib.ListN.{drop-of-length-le, length, drop, take}
 use Rattle.refusals.specs.Sizes.{period}
-use Rattle.convolution.specs.Steps.{stream, Sound}
+use Rattle.convolution.specs.Working.{stream, Sound}
 use Rattle.convolution.specs.Coder.{lowBits, bitsOf}
 use Rattle.convolution.proofs.Stream.{octet-gone, octets-out, room, ended}
 use Rattle.convolution.proofs.all_in.Statement.{statement}

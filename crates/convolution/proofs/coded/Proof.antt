@@ -6,7 +6,7 @@ use native.Mathlib.Omega.{arith}
 use borrow.Author.Needs.{needs}
 use lib.ListN.{length}
 use Rattle.refusals.specs.Sizes.{symbolCount, octetsFor}
-use Rattle.convolution.specs.Steps.{stream, Packed}
+use Rattle.convolution.specs.Working.{stream, Packed}
 use Rattle.convolution.specs.Coder.{bitsOf, symbolsFrom}
 use Rattle.convolution.proofs.Stream.{stream-starts}
 use Rattle.convolution.proofs.Closing.{run-unclosed}

@@ -6,7 +6,7 @@ use native.Mathlib.Numerals.{add-one}
 use native.Mathlib.Nat.{pow-le-pow-right, pow-suc}
 use native.Mathlib.Omega.{arith}
 use borrow.Author.Needs.{needs}
-use Rattle.convolution.specs.Steps.{stream}
+use Rattle.convolution.specs.Working.{stream}
 use Rattle.convolution.specs.Coder.{lowBits}
 use Rattle.convolution.proofs.Bits.{next-bit}
 use Rattle.convolution.proofs.octet_in.Statement.{statement}

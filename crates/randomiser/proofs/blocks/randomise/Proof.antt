@@ -1,7 +1,6 @@
 -- `randomise` refuses before it touches the block, or adds the sequence.
 use borrow.Author.Needs.{needs}
 use mathlib.Core.Path.{refl}
-use lib.ListN.{length}
 use Rattle.refusals.specs.Calls.{randomiseOrder}
 use Rattle.refusals.proofs.Verdicts.{same-verdict, parameter-nonzero}
 use Rattle.randomiser.proofs.blocks.randomise.Statement.{statement}

@@ -23,7 +23,7 @@ use sound.WpLaws.{FmC, fmOf, WpFn-mono}
 use denote.RattleType.{owns}
 use denote.Laws.{Is, shows}
 use denote.Memory.{mem}
-use denote.Plain.{uint-vals, uint-tells, uint-makes, uint-lawful}
+use denote.Plain.{uint-makes, uint-lawful}
 use denote.Builtin.{u8}
 use denote.Ref.{RefT, MutRef, ptr-vals, mut-tells}
 use denote.Signature.{plain}

@@ -4,7 +4,7 @@ use Prim.Native.Nat.{ℕ}
 use Rattle.field.specs.Field.{_⊕_, _·_, whereSet, timesAlpha, shiftAndAdd}
 use Rattle.field.specs.Line.{toLine, toConventional}
 use Rattle.codewords.proofs.Checks.{generator8, generator16, generator8-right, generator16-right}
-use Rattle.reed_solomon.specs.Working.{StrengthTable, tableRows}
+use Rattle.reed_solomon.specs.EncoderWorking.{StrengthTable, tableRows}
 use Rattle.reed_solomon.proofs.StepTables.{other-strength}
 use Rattle.reed_solomon.proofs.checks.table_of.Statement.{statement}
 use Rattle.reed_solomon.proofs.checks.table_of.Tie as tie

@@ -1,13 +1,11 @@
 -- `decode` refuses before it works, repairs the words into a local list, and copies the frame out of it once the last word is good.
 use borrow.Author.Needs.{needs}
-use mathlib.Core.Path.{_≡_, refl, sym, ap, _∙_}
-use Prim.Native.Nat.{ℕ, _≤_, _<_}
-use native.Mathlib.Omega.{arith}
-use lib.ListN.{length, take}
+use mathlib.Core.Path.{refl, sym}
+use lib.ListN.{length}
 use lib.Seq.{length-take-le}
 use Rattle.refusals.specs.Calls.{decodeParameters}
 use Rattle.refusals.proofs.Verdicts.{passed}
-use Rattle.reed_solomon.proofs.Deliveries.{LegalBlock, legal-block, frame-most, fitting, same-outcome, refused-parameter, refused-word, frame-within, delivers}
+use Rattle.reed_solomon.proofs.Deliveries.{fitting, same-outcome, refused-parameter, refused-word, frame-within, delivers}
 use Rattle.reed_solomon.proofs.decoder.decode.Statement.{statement}
 use Rattle.reed_solomon.proofs.decoder.decode.Tie as tie
 

@@ -1,9 +1,7 @@
 -- `repair_word`: the symbols sent are gathered, their codeword is looked for, and its information symbols are put into their places.
 use borrow.Author.Needs.{needs}
-use mathlib.Core.Path.{_≡_, refl, sym}
-use Prim.Native.Nat.{ℕ, _-_, _*_, _≤_}
+use mathlib.Core.Path.{sym}
 use native.Mathlib.Omega.{arith}
-use lib.ListN.{length, take}
 use lib.Seq.{length-take-le}
 use Rattle.refusals.proofs.Legal.{strength-bounds}
 use Rattle.reed_solomon.proofs.WordRepairs.{put-room, word-lost, word-found}

@@ -1,12 +1,12 @@
 -- `repair_words`: before word w the words before it have their codewords, and as many are counted.
 use borrow.Author.Needs.{needs}
-use mathlib.Core.Path.{_≡_, refl, sym, ap, _∙_}
-use Prim.Native.Nat.{ℕ, _≤_, _-_, _<_, _+_, _*_}
+use mathlib.Core.Path.{_≡_, refl, _∙_}
+use Prim.Native.Nat.{_≤_, _-_, _*_}
 use native.Mathlib.Omega.{arith}
 use lib.ListN.{length}
 use borrow.Author.Tests.{not-true, not-false}
 use Rattle.refusals.proofs.Legal.{strength-bounds}
-use Rattle.reed_solomon.specs.Places.{Fitting, Sofar}
+use Rattle.reed_solomon.specs.DecoderWorking.{Fitting, Sofar}
 use Rattle.reed_solomon.proofs.WordRepairs.{still-fits, sofar-starts, sofar-stops, sofar-turn, few-differ}
 use Rattle.reed_solomon.proofs.decoder.repair_words.Statement.{statement}
 use Rattle.reed_solomon.proofs.decoder.repair_words.Tie as tie

@@ -1,10 +1,10 @@
 -- `put_repaired`: before symbol k the first k symbols stand in their places.
-use mathlib.Core.Path.{_≡_, refl, ap, _∙_}
-use Prim.Native.Nat.{ℕ, _≤_, _<_, _-_, _+_, _*_}
+use mathlib.Core.Path.{_≡_, refl}
+use Prim.Native.Nat.{_≤_, _-_}
 use native.Mathlib.Omega.{arith}
 use borrow.Author.Needs.{needs}
 use lib.ListN.{length}
-use Rattle.reed_solomon.specs.Places.{Put}
+use Rattle.reed_solomon.specs.DecoderWorking.{Put}
 use Rattle.reed_solomon.proofs.Interleaving.{place-below}
 use Rattle.reed_solomon.proofs.Gathering.{put-starts, put-turn}
 use Rattle.reed_solomon.proofs.symbols.put_repaired.Statement.{statement}
