@@ -1,0 +1,50 @@
+-- `put_search`: in each arm the answer is of that kind, and the report is that of its kind.
+use Rattle.ironsimmer.proofs.Answers.{search-found, search-absent, search-spent, search-refused}
+use borrow.Author.Needs.{needs}
+use Rattle.ironsimmer.proofs.reports.put_search.Statement.{statement}
+use Rattle.ironsimmer.proofs.reports.put_search.Tie as tie
+
+enum-known-answer : tie.Need-enum-known-answer
+enum-known-answer c = search needs
+
+cast-t11 : tie.Need-cast-t11
+cast-t11 c = search needs
+
+enum-known-answer-2 : tie.Need-enum-known-answer-2
+enum-known-answer-2 c = search needs
+
+enum-known-answer-3 : tie.Need-enum-known-answer-3
+enum-known-answer-3 c = search needs
+
+enum-known-answer-4 : tie.Need-enum-known-answer-4
+enum-known-answer-4 c = search needs
+
+parameter-number-requires : tie.Need-parameter-number-requires
+parameter-number-requires c κs = search needs
+
+returns : tie.Need-returns
+returns c = search-found _ _ _ _ (c .before .before .answer .given .1)
+
+returns-2 : tie.Need-returns-2
+returns-2 c = search-absent _ _ (c .before .before .answer2 .given .1)
+
+returns-3 : tie.Need-returns-3
+returns-3 c = search-spent _ _ _ (c .before .before .answer3 .given .1)
+
+returns-4 : tie.Need-returns-4
+returns-4 c = search-refused _ _ _ (c .before .before .answer4 .given .1) (c .parameter-number .ensures)
+
+pub put-search-spec : {M : Type 1} → statement M
+put-search-spec =
+    tie.close
+    (tie.spec
+    enum-known-answer
+    cast-t11
+    enum-known-answer-2
+    enum-known-answer-3
+    enum-known-answer-4
+    parameter-number-requires
+    returns
+    returns-2
+    returns-3
+    returns-4)

@@ -1,0 +1,35 @@
+// Refusals as one number: the refusal's number, and 256 times its value.
+ghost use mathlib.Core.Path.{_≡_};
+ghost use Rattle.refusals.specs.Numbers.{markerNumber, markerValue, wordNumber, wordValue};
+ghost use Rattle.ironsimmer.specs.Calls.{code, stageCode};
+use chain::Stage;
+use refusals::MarkerRefusal;
+use refusals::WordRefusal;
+
+pub(crate) fn marker_code(refusal: MarkerRefusal) -> u64
+    ensures { λ r. ⌜ r ≡ code (markerNumber refusal) (markerValue refusal) ⌝ }
+{
+    match refusal {
+        MarkerRefusal::Parameters(p) => refusals::parameter_number(p),
+        MarkerRefusal::WrongBits(wrong) => 9 + 256 * (wrong as u64),
+    }
+}
+
+pub(crate) fn word_code(refusal: WordRefusal) -> u64
+    ensures { λ r. ⌜ r ≡ code (wordNumber refusal) (wordValue refusal) ⌝ }
+{
+    match refusal {
+        WordRefusal::Parameters(p) => refusals::parameter_number(p),
+        WordRefusal::NoCodeword(word) => 10 + 256 * (word as u64),
+    }
+}
+
+pub(crate) fn stage_code(stage: Stage) -> u64
+    ensures { λ r. ⌜ r ≡ stageCode stage ⌝ }
+{
+    match stage {
+        Stage::Parameters(p) => refusals::parameter_number(p),
+        Stage::Marker(refusal) => marker_code(refusal),
+        Stage::Word(refusal) => word_code(refusal),
+    }
+}

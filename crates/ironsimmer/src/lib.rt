@@ -1,0 +1,142 @@
+// The C interface: each call hands its arguments to the call beneath and gives that call's answer as one number, which has the refusal's
+// number in its lowest eight bits, 0 if accepted, and above them the refusal's value. include/ironsimmer.h says the same to C.
+mod codes;
+mod reports;
+
+ghost use Rattle.randomiser.specs.Outcome.{NextOutcome};
+ghost use Rattle.ironsimmer.specs.Calls.{EncodeCall, DecodeCall, RandomiseCall, MarkerCall, SearchCall, ConvolveCall, TransmitCall, ReceiveCall};
+use chain::Received;
+use convolution::Convolved;
+use marker::Tested;
+use reed_solomon::Decoded;
+
+#[no_mangle]
+pub extern "C" fn ironsimmer_encode(
+    e: u32,
+    depth: u32,
+    fill: u32,
+    frame: &[u8],
+    block: &mut [u8],
+) -> u64
+    ensures { λ r. ⌜ EncodeCall e depth fill (now (frame .entry)) (now (block .entry)) r (now (block .exit)) ⌝ }
+{
+    refusals::verdict_number(reed_solomon::encode(e, depth, fill, frame, block))
+}
+
+#[no_mangle]
+pub extern "C" fn ironsimmer_decode(
+    e: u32,
+    depth: u32,
+    fill: u32,
+    s: u32,
+    block: &[u8],
+    frame: &mut [u8],
+    counts: &mut [u32; 9],
+) -> u64
+    ensures { λ r. ⌜ DecodeCall e depth fill s (now (block .entry)) (now (frame .entry)) (now (counts .entry)) r (now (frame .exit)) (now (counts .exit)) ⌝ }
+{
+    let decoding = reed_solomon::decode(e, depth, fill, s, block, frame);
+    let answer = decoding.answer;
+    if let Decoded::Refused(refusal) = answer {
+        return codes::word_code(refusal);
+    }
+    let corrected = decoding.counts;
+    *counts = reports::report_of(corrected, decoding.total);
+    0
+}
+
+#[no_mangle]
+pub extern "C" fn ironsimmer_randomise(block: &mut [u8]) -> u64
+    ensures { λ r. ⌜ RandomiseCall (now (block .entry)) r (now (block .exit)) ⌝ }
+{
+    refusals::verdict_number(randomiser::randomise(block))
+}
+
+#[no_mangle]
+pub extern "C" fn ironsimmer_sequence(register: &mut u8) -> u8
+    ensures { λ octet. ⌜ NextOutcome (now (register .entry)) octet (now (register .exit)) ⌝ }
+{
+    randomiser::next_bits(register)
+}
+
+#[no_mangle]
+pub extern "C" fn ironsimmer_marker(tolerance: u32, octets: &[u8], wrong: &mut u32) -> u64
+    ensures { λ r. ⌜ MarkerCall tolerance (now (octets .entry)) (now (wrong .entry)) r (now (wrong .exit)) ⌝ }
+{
+    match marker::test(tolerance, octets) {
+        Tested::Accepted(bits) => {
+            *wrong = bits;
+            0
+        }
+        Tested::Refused(refusal) => codes::marker_code(refusal),
+    }
+}
+
+#[no_mangle]
+pub extern "C" fn ironsimmer_search(
+    tolerance: u32,
+    stream: &[u8],
+    start: u64,
+    budget: u64,
+    found: &mut [u64; 4],
+) -> u64
+    ensures { λ r. ⌜ SearchCall tolerance (now (stream .entry)) start budget (now (found .entry)) r (now (found .exit)) ⌝ }
+{
+    reports::put_search(marker::search(tolerance, stream, start, budget), found)
+}
+
+#[no_mangle]
+pub extern "C" fn ironsimmer_convolve(
+    rate: u32,
+    data: &[u8],
+    symbols: &mut [u8],
+    count: &mut u32,
+) -> u64
+    ensures { λ r. ⌜ ConvolveCall rate (now («data» .entry)) (now (symbols .entry)) (now (count .entry)) r (now (symbols .exit)) (now (count .exit)) ⌝ }
+{
+    match convolution::convolve(rate, data, symbols) {
+        Convolved::Done(number) => {
+            *count = number;
+            0
+        }
+        Convolved::Refused(parameter) => refusals::parameter_number(parameter),
+    }
+}
+
+#[no_mangle]
+pub extern "C" fn ironsimmer_transmit(
+    e: u32,
+    depth: u32,
+    fill: u32,
+    randomised: u32,
+    frame: &[u8],
+    marked: &mut [u8],
+) -> u64
+    ensures { λ r. ⌜ TransmitCall e depth fill randomised (now (frame .entry)) (now (marked .entry)) r (now (marked .exit)) ⌝ }
+{
+    refusals::verdict_number(chain::transmit(e, depth, fill, randomised != 0, frame, marked))
+}
+
+#[no_mangle]
+pub extern "C" fn ironsimmer_receive(
+    e: u32,
+    depth: u32,
+    fill: u32,
+    s: u32,
+    tolerance: u32,
+    randomised: u32,
+    marked: &[u8],
+    frame: &mut [u8],
+    counts: &mut [u32; 9],
+) -> u64
+    ensures { λ r. ⌜ ReceiveCall e depth fill s tolerance randomised (now (marked .entry)) (now (frame .entry)) (now (counts .entry)) r (now (frame .exit)) (now (counts .exit)) ⌝ }
+{
+    let reception = chain::receive(e, depth, fill, s, tolerance, randomised != 0, marked, frame);
+    let answer = reception.answer;
+    if let Received::Refused(stage) = answer {
+        return codes::stage_code(stage);
+    }
+    let corrected = reception.counts;
+    *counts = reports::report_of(corrected, reception.total);
+    0
+}

@@ -1,0 +1,49 @@
+// What an accepted call reports, in the arrays that C lends. A whole array is put in place at once: a refused call then cannot have written a part.
+ghost use mathlib.Core.Path.{_≡_};
+ghost use mathlib.Core.List.{[], _∷_, _++_};
+ghost use lib.ListN.{length};
+ghost use Rattle.ironsimmer.specs.Calls.{Reported};
+use marker::Searched;
+
+// The counts of eight words, then the total.
+pub(crate) fn report_of(counts: [u8; 8], total: u32) -> [u32; 9]
+    requires { ⌜ length counts ≡ 8 ⌝ }
+    ensures { λ r. ⌜ r ≡ counts ++ (total ∷ []) ⌝ }
+{
+    [
+        counts[0] as u32,
+        counts[1] as u32,
+        counts[2] as u32,
+        counts[3] as u32,
+        counts[4] as u32,
+        counts[5] as u32,
+        counts[6] as u32,
+        counts[7] as u32,
+        total,
+    ]
+}
+
+// The kind of an answer, 1 found, 2 absent, 3 spent, with its place, wrong bits and places looked at; or the refusal's number.
+pub(crate) fn put_search(answer: Searched, found: &mut [u64; 4]) -> u64
+    ensures { λ r. ⌜ Reported answer (now (found .entry)) r (now (found .exit)) ⌝ }
+{
+    match answer {
+        Searched::Found {
+            place,
+            wrong,
+            looked,
+        } => {
+            *found = [1, place, wrong as u64, looked];
+            0
+        }
+        Searched::Absent { looked } => {
+            *found = [2, 0, 0, looked];
+            0
+        }
+        Searched::Spent { place, looked } => {
+            *found = [3, place, 0, looked];
+            0
+        }
+        Searched::Refused(parameter) => refusals::parameter_number(parameter),
+    }
+}

@@ -1,0 +1,119 @@
+/*
+ * Ironsimmer: the telemetry coder and decoder of ISO 11754 (CCSDS 101.0-B-5), depth 8 included, proved.
+ *
+ * Link target/staticlib/libironsimmer.a, which `rt staticlib ironsimmer` writes. No call allocates, keeps state or calls anything; all
+ * may be used from several threads at once.
+ *
+ * Every call but ironsimmer_sequence returns one number: IRONSIMMER_NUMBER of it is the refusal's number, 0 if the call was accepted,
+ * and IRONSIMMER_VALUE the refusal's value (of 9 the wrong bits, of 10 the lowest word that has no codeword; else 0). If several
+ * refusals are due, the first in the order that each call names is answered. After a refusal every buffer and every number that was
+ * lent to be written holds what it held.
+ *
+ * Any number and any length is accepted and judged. Of the caller this asks: each pointer is not null and points to as many octets or
+ * numbers as are said to be there (also if that is none), and what is lent to be written overlaps nothing else that is lent.
+ */
+#ifndef IRONSIMMER_H
+#define IRONSIMMER_H
+
+#include <stddef.h>
+#include <stdint.h>
+
+#ifdef __cplusplus
+extern "C" {
+#endif
+
+enum ironsimmer_refusal {
+    IRONSIMMER_ACCEPTED = 0,
+    IRONSIMMER_STRENGTH = 1,      /* E is neither 8 nor 16 */
+    IRONSIMMER_DEPTH = 2,         /* I is none of 1, 2, 3, 4, 5, 8 */
+    IRONSIMMER_FILL = 3,          /* Q is over 254 - 2E */
+    IRONSIMMER_ALLOWANCE = 4,     /* s is over E */
+    IRONSIMMER_INPUT_LENGTH = 5,  /* what is read has not the length required, or is over the limit */
+    IRONSIMMER_OUTPUT_LENGTH = 6, /* what is written has not the length required */
+    IRONSIMMER_RATE = 7,          /* the rate is none of 1 to 5 */
+    IRONSIMMER_TOLERANCE = 8,     /* the tolerance is over 3 */
+    IRONSIMMER_MARKER = 9,        /* more wrong bits in the marker than the tolerance; the value is their number */
+    IRONSIMMER_WORD = 10,         /* a word has no codeword with zero fill within the allowance; the value is the lowest such word */
+    IRONSIMMER_START = 11         /* the search starts past the stream's end */
+};
+
+enum ironsimmer_search_kind {
+    IRONSIMMER_FOUND = 1,
+    IRONSIMMER_ABSENT = 2,
+    IRONSIMMER_SPENT = 3
+};
+
+#define IRONSIMMER_NUMBER(answer) ((unsigned)((answer) & 255))
+#define IRONSIMMER_VALUE(answer) ((uint64_t)(answer) >> 8)
+
+/*
+ * Codes a frame of (255 - 2E - Q) I octets as a block of (255 - Q) I octets: the frame, then 2E check octets for each of its I
+ * interleaved words. Strength E is 8 or 16; Q symbols of fill in each word, all zero, are not sent.
+ * Refuses by 1, 2, 3, 5, 6.
+ */
+uint64_t ironsimmer_encode(uint32_t e, uint32_t depth, uint32_t fill,
+                           const uint8_t *frame, size_t frame_len, uint8_t *block, size_t block_len);
+
+/*
+ * Decodes a block: delivered exactly if every word lies within s symbols of a codeword whose fill is all zero. The frame is that of
+ * those codewords; counts holds the number of differing symbols of each of eight words, 0 beyond the depth, then their total.
+ * Refuses by 1, 2, 3, 4, 5, 6, 10.
+ */
+uint64_t ironsimmer_decode(uint32_t e, uint32_t depth, uint32_t fill, uint32_t s,
+                           const uint8_t *block, size_t block_len, uint8_t *frame, size_t frame_len, uint32_t counts[9]);
+
+/*
+ * Adds the pseudo-random sequence to a block of at most 2,040 octets, in place, from the sequence's beginning. The same call undoes it.
+ * Refuses by 5.
+ */
+uint64_t ironsimmer_randomise(uint8_t *block, size_t block_len);
+
+/*
+ * The next octet of the sequence. The register holds the next eight bits, 255 at the beginning, and is left eight bits on.
+ * Refuses nothing, and returns the octet.
+ */
+uint8_t ironsimmer_sequence(uint8_t *reg);
+
+/*
+ * Tests four octets against the marker 1A CF FC 1D: accepted, with the number of wrong bits, if that is at most the tolerance (0 to 3).
+ * Refuses by 8, 5, 9.
+ */
+uint64_t ironsimmer_marker(uint32_t tolerance, const uint8_t *octets, size_t octets_len, uint32_t *wrong);
+
+/*
+ * Looks for the marker at every bit of a stream of at most 65,536 octets, from bit `start` on, at no more than `budget` places.
+ * found holds the kind (IRONSIMMER_FOUND, IRONSIMMER_ABSENT, IRONSIMMER_SPENT), the place (the first that fits; if spent, the next to
+ * look at; if absent, 0), the wrong bits there (0 unless found), and how many places were looked at.
+ * Refuses by 8, 5, 11.
+ */
+uint64_t ironsimmer_search(uint32_t tolerance, const uint8_t *stream, size_t stream_len,
+                           uint64_t start, uint64_t budget, uint64_t found[4]);
+
+/*
+ * Convolutional symbols of at most 2,044 octets at rates 1 to 5 (1/2, 2/3, 3/4, 5/6, 7/8), packed top bit first, the last octet filled
+ * with zeros. Of n octets there are 8n + ceil(8n / p) symbols, p = 1, 2, 3, 5, 7, in so many octets as hold them; count is their number.
+ * Refuses by 7, 5, 6.
+ */
+uint64_t ironsimmer_convolve(uint32_t rate, const uint8_t *data, size_t data_len,
+                             uint8_t *symbols, size_t symbols_len, uint32_t *count);
+
+/*
+ * Codes a frame as encode does, randomises the block unless `randomised` is 0, and puts the marker in front: (255 - Q) I + 4 octets.
+ * Refuses by 1, 2, 3, 5, 6.
+ */
+uint64_t ironsimmer_transmit(uint32_t e, uint32_t depth, uint32_t fill, uint32_t randomised,
+                             const uint8_t *frame, size_t frame_len, uint8_t *marked, size_t marked_len);
+
+/*
+ * Tests the marker of a marked block, randomises the block again unless `randomised` is 0, and decodes it; frame and counts as in
+ * decode. The marked block is not changed.
+ * Refuses by 1, 2, 3, 4, 8, 5, 6, 9, 10.
+ */
+uint64_t ironsimmer_receive(uint32_t e, uint32_t depth, uint32_t fill, uint32_t s, uint32_t tolerance, uint32_t randomised,
+                            const uint8_t *marked, size_t marked_len, uint8_t *frame, size_t frame_len, uint32_t counts[9]);
+
+#ifdef __cplusplus
+}
+#endif
+
+#endif
