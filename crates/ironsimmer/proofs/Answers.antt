@@ -1,9 +1,8 @@
 -- What an exported call has answered, by each kind of answer of the call beneath.
 use mathlib.Core.Path.{_≡_, refl, sym, ap, _∙_, subst}
 use mathlib.Core.Logic.{_≢_}
-use mathlib.Core.Bool.{Bool}
 use mathlib.Core.List.{List, [], _∷_, _++_}
-use Prim.Native.Nat.{ℕ, _+_, _*_}
+use Prim.Native.Nat.{ℕ}
 use native.Mathlib.Omega.{arith}
 use lib.ListN.{length, getD}
 use Rattle.refusals.specs.Numbers.{parameterNumber, markerNumber, markerValue, wordNumber, wordValue}
@@ -29,13 +28,13 @@ use Rattle.chain.specs.declared.Stage.the-variants as stage
 use Rattle.chain.specs.declared.Received.{Received}
 use Rattle.chain.specs.declared.Received.the-variants as received
 use Rattle.chain.specs.Outcome.{ReceiveOutcome, receivedNumber, receivedValue}
-use Rattle.ironsimmer.specs.Calls.{code, stageCode, flag, Filled, Set, searchReport, DecodeCall, MarkerCall, Reported, ConvolveCall, ReceiveCall}
+use Rattle.ironsimmer.specs.Calls.{code, stageCode, flag, Filled, Told, DecodeCall, MarkerCall, Reported, ConvolveCall, ReceiveCall}
 
 -- ---- one number for an answer
 
 -- An answer known by its kind has that kind's number.
-pub told {ℓ} : {A : Type ℓ} (f : A → ℕ) {x y : A} {n : ℕ} → x ≡ y → n ≡ f y → n ≡ f x
-told f e p = p ∙ ap f (sym e)
+pub known-answer {ℓ} : {A : Type ℓ} (f : A → ℕ) {x y : A} {n : ℕ} → x ≡ y → n ≡ f y → n ≡ f x
+known-answer f e p = p ∙ ap f (sym e)
 
 abbrev pub markerCode : MarkerRefusal → ℕ
 markerCode r = code (markerNumber r) (markerValue r)
@@ -70,11 +69,11 @@ filled-refused number report before z = record { refused = λ n. refl; accepted 
 pub filled-accepted : (report before : List ℕ) → Filled 0 report before report
 filled-accepted report before = record { refused = λ n. absurd (n refl); accepted = λ e. refl }
 
-pub set-refused : (number report before : ℕ) → number ≢ 0 → Set number report before before
-set-refused number report before z = record { refused = λ n. refl; accepted = λ e. absurd (z e) }
+pub told-refused : (number report before : ℕ) → number ≢ 0 → Told number report before before
+told-refused number report before z = record { refused = λ n. refl; accepted = λ e. absurd (z e) }
 
-pub set-accepted : (report before : ℕ) → Set 0 report before report
-set-accepted report before = record { refused = λ n. absurd (n refl); accepted = λ e. refl }
+pub told-accepted : (report before : ℕ) → Told 0 report before report
+told-accepted report before = record { refused = λ n. absurd (n refl); accepted = λ e. refl }
 
 -- ---- the calls
 
@@ -86,7 +85,7 @@ module _ (tolerance : ℕ) (octets : List ℕ) (before : ℕ) {answer : Tested} 
         outcome = subst (TestOutcome tolerance octets) e o;
         coded = λ n. absurd (n refl);
         accepted = λ z. refl;
-        set = set-accepted bits before;
+        told = told-accepted bits before;
       }
 
   pub marker-refused : (r : MarkerRefusal) (n : ℕ) → answer ≡ tested.Refused r → TestOutcome tolerance octets answer → n ≡ markerCode r
@@ -97,7 +96,7 @@ module _ (tolerance : ℕ) (octets : List ℕ) (before : ℕ) {answer : Tested} 
         outcome = subst (TestOutcome tolerance octets) e o;
         coded = λ z. c;
         accepted = λ z. absurd (marker-nonzero r z);
-        set = set-refused (markerNumber r) (markerValue r) before (marker-nonzero r);
+        told = told-refused (markerNumber r) (markerValue r) before (marker-nonzero r);
       }
 
 module _ (rate : ℕ) (octets before : List ℕ) (counted : ℕ) (after : List ℕ) {answer : Convolved} where
@@ -108,7 +107,7 @@ module _ (rate : ℕ) (octets before : List ℕ) (counted : ℕ) (after : List �
         convolved = convolved.Done count;
         outcome = subst (λ (a : Convolved). ConvolveOutcome rate octets before a after) e o;
         coded = refl;
-        set = set-accepted count counted;
+        told = told-accepted count counted;
       }
 
   pub convolve-refused : (p : Parameter) (n : ℕ) → answer ≡ convolved.Refused p → ConvolveOutcome rate octets before answer after → n ≡ parameterNumber p
@@ -118,7 +117,7 @@ module _ (rate : ℕ) (octets before : List ℕ) (counted : ℕ) (after : List �
         convolved = convolved.Refused p;
         outcome = subst (λ (a : Convolved). ConvolveOutcome rate octets before a after) e o;
         coded = c;
-        set = set-refused (parameterNumber p) 0 counted (parameter-nonzero p);
+        told = told-refused (parameterNumber p) 0 counted (parameter-nonzero p);
       }
 
 module _ (e i q s : ℕ) (block before reported counts : List ℕ) (total : ℕ) (after : List ℕ) {answer : Decoded} where

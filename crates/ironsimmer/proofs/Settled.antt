@@ -1,24 +1,21 @@
 -- Every exported call is settled by its contract: two outcomes that it permits for one input are equal, answer, report and buffers.
-use mathlib.Core.Path.{_≡_, refl, sym, ap, ap₂, _∙_, subst}
-use mathlib.Core.Logic.{_≢_}
+use mathlib.Core.Path.{_≡_, sym, ap, ap₂, _∙_, subst}
 use mathlib.Core.List.{List, [], _∷_, _++_}
 use Prim.Native.Nat.{ℕ}
 use native.Mathlib.Decide.{ℕ-discrete}
 use Rattle.refusals.specs.Numbers.{verdictNumber}
-use Rattle.reed_solomon.specs.declared.Decoded.{Decoded}
 use Rattle.reed_solomon.specs.Outcome.{decodedNumber, decodedValue}
 use Rattle.reed_solomon.proofs.Settled.{encode-settled}
 use Rattle.reed_solomon.proofs.DecodeSettled.{decode-settled}
 use Rattle.randomiser.specs.Outcome.{NextOutcome}
 use Rattle.randomiser.proofs.Settled.{next-bits-settled, randomise-settled}
-use Rattle.marker.specs.declared.Tested.{Tested}
 use Rattle.marker.specs.Numbers.{testedNumber, testedValue, searchedNumber}
 use Rattle.marker.proofs.Settled.{test-settled, search-settled}
 use Rattle.convolution.specs.Outcome.{convolvedNumber, convolvedCount}
 use Rattle.convolution.proofs.Settled.{convolve-settled}
 use Rattle.chain.specs.Outcome.{receivedNumber, receivedValue}
 use Rattle.chain.proofs.Settled.{transmit-settled, receive-settled}
-use Rattle.ironsimmer.specs.Calls.{code, flag, Filled, Set, searchReport, EncodeCall, DecodeCall, RandomiseCall, MarkerCall, SearchCall, ConvolveCall, TransmitCall, ReceiveCall}
+use Rattle.ironsimmer.specs.Calls.{code, flag, Filled, Told, searchReport, EncodeCall, DecodeCall, RandomiseCall, MarkerCall, SearchCall, ConvolveCall, TransmitCall, ReceiveCall}
 
 -- ---- what was lent for the report
 
@@ -33,15 +30,15 @@ filled-settled : (m n : ℕ) (r t before a b : List ℕ) → m ≡ n → r ≡ t
 filled-settled m n r t before a b e f p q =
     filled-once n t before a b (subst (λ (k : ℕ). Filled k t before a) e (subst (λ (l : List ℕ). Filled m l before a) f p)) q
 
-set-once : (number report before a b : ℕ) → Set number report before a → Set number report before b → a ≡ b
-set-once number report before a b p q =
+told-once : (number report before a b : ℕ) → Told number report before a → Told number report before b → a ≡ b
+told-once number report before a b p q =
     elim (ℕ-discrete number 0) [
       | yes z ↦ p .accepted z ∙ sym (q .accepted z)
       | no z ↦ p .refused z ∙ sym (q .refused z)
     ]
 
-set-settled : (m n r t before a b : ℕ) → m ≡ n → r ≡ t → Set m r before a → Set n t before b → a ≡ b
-set-settled m n r t before a b e f p q = set-once n t before a b (subst (λ (k : ℕ). Set k t before a) e (subst (λ (l : ℕ). Set m l before a) f p)) q
+told-settled : (m n r t before a b : ℕ) → m ≡ n → r ≡ t → Told m r before a → Told n t before b → a ≡ b
+told-settled m n r t before a b e f p q = told-once n t before a b (subst (λ (k : ℕ). Told k t before a) e (subst (λ (l : ℕ). Told m l before a) f p)) q
 
 -- ---- the calls
 
@@ -76,7 +73,7 @@ module _ (m n : ℕ) (a b : List ℕ) where
       let same = convolve-settled rate octets before a b (x .convolved) (y .convolved) (x .outcome) (y .outcome) in (
         x .coded ∙ ap convolvedNumber (same .0) ∙ sym (y .coded),
         same .1,
-        set-settled _ _ _ _ counted c d (ap convolvedNumber (same .0)) (ap convolvedCount (same .0)) (x .set) (y .set),
+        told-settled _ _ _ _ counted c d (ap convolvedNumber (same .0)) (ap convolvedCount (same .0)) (x .told) (y .told),
       )
 
   pub ironsimmer-decode-settled : (e i q s : ℕ) (block before reported r t : List ℕ) → DecodeCall e i q s block before reported m a r
@@ -108,5 +105,5 @@ ironsimmer-marker-settled tolerance octets before m a n b x y =
         | yes z ↦ x .accepted z ∙ sym (y .accepted (ap testedNumber (sym same) ∙ z))
         | no z ↦ x .coded z ∙ ap₂ code (ap testedNumber same) (ap testedValue same) ∙ sym (y .coded (λ w. z (ap testedNumber same ∙ w)))
       ],
-      set-settled _ _ _ _ before a b (ap testedNumber same) (ap testedValue same) (x .set) (y .set),
+      told-settled _ _ _ _ before a b (ap testedNumber same) (ap testedValue same) (x .told) (y .told),
     )

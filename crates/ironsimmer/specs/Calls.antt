@@ -42,7 +42,7 @@ pub record Filled (number : ℕ) (report before after : List ℕ) : Type 0 where
   pub accepted : number ≡ 0 → after ≡ report
 
 -- So for one number.
-pub record Set (number report before after : ℕ) : Type 0 where
+pub record Told (number report before after : ℕ) : Type 0 where
   pub refused : number ≢ 0 → after ≡ before
   pub accepted : number ≡ 0 → after ≡ report
 
@@ -73,7 +73,7 @@ pub record MarkerCall (tolerance : ℕ) (octets : List ℕ) (before answer after
   pub outcome : TestOutcome tolerance octets tested
   pub coded : testedNumber tested ≢ 0 → answer ≡ code (testedNumber tested) (testedValue tested)
   pub accepted : testedNumber tested ≡ 0 → answer ≡ 0
-  pub set : Set (testedNumber tested) (testedValue tested) before after
+  pub told : Told (testedNumber tested) (testedValue tested) before after
 
 -- What an accepted search reports: 1 found, 2 absent, 3 spent; the place, 0 if absent; the wrong bits, 0 unless found; the places looked at.
 abbrev pub searchReport : Searched → List ℕ
@@ -98,7 +98,7 @@ pub record ConvolveCall (rate : ℕ) (octets before : List ℕ) (counted answer 
   pub convolved : Convolved
   pub outcome : ConvolveOutcome rate octets before convolved after
   pub coded : answer ≡ convolvedNumber convolved
-  pub set : Set (convolvedNumber convolved) (convolvedCount convolved) counted count
+  pub told : Told (convolvedNumber convolved) (convolvedCount convolved) counted count
 
 -- Transmit: the number of its verdict.
 pub record TransmitCall (e i q randomised : ℕ) (frame before : List ℕ) (answer : ℕ) (after : List ℕ) : Type 0 where

@@ -1,6 +1,6 @@
 -- `word_code`: in each arm the refusal is of that kind, and has its number and value.
 use native.Mathlib.Omega.{arith}
-use Rattle.ironsimmer.proofs.Answers.{told, wordCode}
+use Rattle.ironsimmer.proofs.Answers.{known-answer, wordCode}
 use borrow.Author.Needs.{needs}
 use Rattle.ironsimmer.proofs.codes.word_code.Statement.{statement}
 use Rattle.ironsimmer.proofs.codes.word_code.Tie as tie
@@ -24,10 +24,10 @@ add-result : tie.Need-add-result
 add-result c = search needs
 
 returns : tie.Need-returns
-returns c = told wordCode (c .before .before .refusal .given .1) (omega (arith, c .parameter-number .ensures))
+returns c = known-answer wordCode (c .before .before .refusal .given .1) (omega (arith, c .parameter-number .ensures))
 
 returns-2 : tie.Need-returns-2
-returns-2 c = told wordCode (c .before .refusal2 .given .1) (omega arith)
+returns-2 c = known-answer wordCode (c .before .refusal2 .given .1) (omega arith)
 
 pub word-code-spec : {M : Type 1} → statement M
 word-code-spec =
