@@ -1,0 +1,125 @@
+//! That the sides answer alike: on every timed input, and on a sweep of parameters, limits and refusals.
+
+use crate::calls::{Calls, Code};
+use crate::cases::{Case, Lent};
+use crate::data::Draw;
+
+/// Asks each side, each with the same lent buffers, and gives what all of them answered and wrote.
+fn alike<F>(sides: &[&dyn Calls], fresh: &Lent, what: &str, ask: F) -> (u64, Lent)
+where
+    F: Fn(&dyn Calls, &mut Lent) -> u64,
+{
+    let outcomes = sides.iter().map(|side| {
+        let mut lent = fresh.clone();
+        (ask(*side, &mut lent), lent)
+    });
+    let outcomes: Vec<(u64, Lent)> = outcomes.collect();
+    for other in &outcomes[1..] {
+        assert!(outcomes[0] == *other, "the sides differ: {what}");
+    }
+    outcomes[0].clone()
+}
+
+pub fn of_case(case: &Case, sides: &[&dyn Calls]) {
+    for input in &case.inputs {
+        let ask = |side: &dyn Calls, lent: &mut Lent| case.call(input, side, lent);
+        let (answer, lent) = alike(sides, &case.fresh, &case.name, ask);
+        assert_eq!(answer, 0, "refused: {}", case.name);
+        if let Some(expected) = &input.expected {
+            assert!(lent == *expected, "not as expected: {}", case.name);
+        }
+    }
+}
+
+/// A length, or one past it, or one short of it, mostly the first.
+fn about(draw: &mut Draw, len: usize) -> usize {
+    match draw.below(8) {
+        0 => len + 1,
+        1 => len.saturating_sub(1),
+        _ => len,
+    }
+}
+
+/// One of the first eight times in ten, else one of the others.
+fn one_of(draw: &mut Draw, legal: &[u32], others: &[u32]) -> u32 {
+    let from = if draw.below(10) < 8 { legal } else { others };
+    from[draw.below(from.len())]
+}
+
+fn words(draw: &mut Draw, sides: &[&dyn Calls]) -> u64 {
+    let e = one_of(draw, &[8, 16], &[0, 7, 9, 15, 17, u32::MAX]);
+    let depth = one_of(draw, &[1, 2, 3, 4, 5, 8], &[0, 6, 7, 9, u32::MAX]);
+    let fill = one_of(draw, &[0, 1, 100, 222], &[223, 238, 239, u32::MAX]);
+    let code = Code { e, depth, fill };
+    let fits = (8..=16).contains(&e) && depth <= 8 && fill < 255 - 2 * e;
+    let (frame_len, block_len) = if fits {
+        (code.frame_len(), code.block_len())
+    } else {
+        (1, 33)
+    };
+    let given = about(draw, frame_len);
+    let frame = draw.octets(given);
+    let fresh = Lent::new(about(draw, block_len));
+    let what = format!("encode, {code:?}");
+    let (answer, coded) = alike(sides, &fresh, &what, |side, lent| {
+        side.encode(code, &frame, &mut lent.octets)
+    });
+    let mut block = coded.octets;
+    if answer == 0 {
+        let wrong = draw.below(e as usize + 2);
+        draw.damage(&mut block, depth as usize, wrong);
+    }
+    let s = one_of(draw, &[e], &[0, e / 2, e.saturating_sub(1), u32::MAX]);
+    let fresh = Lent::new(about(draw, frame_len));
+    let what = format!("decode, {code:?}, s {s}");
+    let (answer, _) = alike(sides, &fresh, &what, |side, lent| {
+        side.decode(code, s, &block, &mut lent.octets, &mut lent.counts)
+    });
+    answer & 255
+}
+
+fn stream(draw: &mut Draw, sides: &[&dyn Calls]) {
+    let n = [0, 3, 4, 40, 65536, 65537][draw.below(6)];
+    let mut octets = draw.octets(n);
+    if n >= 40 {
+        let place = draw.below(n - 3);
+        octets[place..place + 4].copy_from_slice(&[0x1A, 0xCF, 0xFC, 0x1D]);
+        octets[place] ^= 1 << draw.below(8);
+    }
+    let tolerance = draw.below(5) as u32;
+    let start = draw.below(8 * n + 2) as u64;
+    let budget = [0, 1, draw.below(1000) as u64, u64::MAX][draw.below(4)];
+    alike(sides, &Lent::new(0), "search", |side, lent| {
+        side.search(tolerance, &octets, start, budget, &mut lent.found)
+    });
+}
+
+fn octets(draw: &mut Draw, sides: &[&dyn Calls]) {
+    let n = [0, 1, 2, 5, 255, 1275, 2040, 2041, 2044, 2045][draw.below(10)];
+    let data = draw.octets(n);
+    let rate = one_of(draw, &[1, 2, 3, 4, 5], &[0, 6, u32::MAX]);
+    let period = [1, 1, 2, 3, 5, 7, 1][rate.min(6) as usize];
+    let symbols = 8 * n + (8 * n).div_ceil(period);
+    let fresh = Lent::new(about(draw, symbols.div_ceil(8)));
+    let what = format!("convolve, rate {rate}, {n} octets");
+    alike(sides, &fresh, &what, |side, lent| {
+        side.convolve(rate, &data, &mut lent.octets, &mut lent.count)
+    });
+    alike(sides, &Lent::new(n), "randomise", |side, lent| {
+        side.randomise(&mut lent.octets)
+    });
+}
+
+/// How often each number was decode's answer in so many draws, all of which the sides answered alike.
+pub fn of_sweep(sides: &[&dyn Calls], draws: usize) -> [usize; 11] {
+    let mut draw = Draw::new(2);
+    let mut answers = [0; 11];
+    for n in 0..draws {
+        answers[words(&mut draw, sides) as usize] += 1;
+        octets(&mut draw, sides);
+        if n % 20 == 0 {
+            stream(&mut draw, sides);
+        }
+    }
+    answers
+}

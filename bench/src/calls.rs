@@ -1,0 +1,50 @@
+//! The calls that are timed, as every side answers them: numbers, buffers and refusals as in include/ironsimmer.h.
+
+/// Strength E, depth I and fill Q.
+#[derive(Clone, Copy, Debug)]
+pub struct Code {
+    pub e: u32,
+    pub depth: u32,
+    pub fill: u32,
+}
+
+impl Code {
+    pub fn frame_len(self) -> usize {
+        ((255 - 2 * self.e - self.fill) * self.depth) as usize
+    }
+
+    pub fn block_len(self) -> usize {
+        ((255 - self.fill) * self.depth) as usize
+    }
+}
+
+/// What search answers first; the numbers of the header.
+pub const FOUND: u64 = 1;
+pub const ABSENT: u64 = 2;
+pub const SPENT: u64 = 3;
+
+pub trait Calls {
+    fn encode(&self, code: Code, frame: &[u8], block: &mut [u8]) -> u64;
+
+    fn decode(
+        &self,
+        code: Code,
+        s: u32,
+        block: &[u8],
+        frame: &mut [u8],
+        counts: &mut [u32; 9],
+    ) -> u64;
+
+    fn search(
+        &self,
+        tolerance: u32,
+        stream: &[u8],
+        start: u64,
+        budget: u64,
+        found: &mut [u64; 4],
+    ) -> u64;
+
+    fn convolve(&self, rate: u32, data: &[u8], symbols: &mut [u8], count: &mut u32) -> u64;
+
+    fn randomise(&self, block: &mut [u8]) -> u64;
+}

@@ -1,0 +1,168 @@
+//! The cases that are timed: each a call on inputs that were made beforehand.
+
+use crate::calls::{Calls, Code, ABSENT, FOUND};
+use crate::data::Draw;
+
+/// Different inputs in turn, so that no side's branches are learnt by heart.
+const INPUTS: usize = 20;
+const STREAM: usize = 65536;
+
+/// Everything that a call may write.
+#[derive(Clone, Debug, PartialEq)]
+pub struct Lent {
+    pub octets: Vec<u8>,
+    pub counts: [u32; 9],
+    pub found: [u64; 4],
+    pub count: u32,
+}
+
+impl Lent {
+    /// Not zero, so that it shows what was not written.
+    pub fn new(octets: usize) -> Lent {
+        Lent {
+            octets: vec![170; octets],
+            counts: [170; 9],
+            found: [170; 4],
+            count: 170,
+        }
+    }
+}
+
+enum Work {
+    Encode(Code),
+    Decode(Code),
+    Search,
+    Convolve(u32),
+    Randomise,
+}
+
+pub struct Input {
+    read: Vec<u8>,
+    /// The outcome, where it is known before any side is asked.
+    pub expected: Option<Lent>,
+}
+
+pub struct Case {
+    pub name: String,
+    work: Work,
+    pub inputs: Vec<Input>,
+    pub fresh: Lent,
+}
+
+impl Case {
+    pub fn call(&self, input: &Input, side: &dyn Calls, lent: &mut Lent) -> u64 {
+        let (read, out) = (&input.read, &mut lent.octets);
+        match self.work {
+            Work::Encode(code) => side.encode(code, read, out),
+            Work::Decode(code) => side.decode(code, code.e, read, out, &mut lent.counts),
+            Work::Search => side.search(3, read, 0, u64::MAX, &mut lent.found),
+            Work::Convolve(rate) => side.convolve(rate, read, out, &mut lent.count),
+            Work::Randomise => side.randomise(out),
+        }
+    }
+
+    /// Whether the baseline's faster form is another than its plain one.
+    pub fn has_faster(&self) -> bool {
+        matches!(self.work, Work::Decode(_) | Work::Convolve(_))
+    }
+
+    fn new(name: String, work: Work, octets: usize, input: impl FnMut() -> Input) -> Case {
+        Case {
+            name,
+            work,
+            inputs: std::iter::repeat_with(input).take(INPUTS).collect(),
+            fresh: Lent::new(octets),
+        }
+    }
+}
+
+fn code(e: u32) -> Code {
+    Code {
+        e,
+        depth: 5,
+        fill: 0,
+    }
+}
+
+fn encode(draw: &mut Draw, e: u32) -> Case {
+    let code = code(e);
+    let input = || Input {
+        read: draw.octets(code.frame_len()),
+        expected: None,
+    };
+    let name = format!("encode, E {e}, I 5, Q 0");
+    Case::new(name, Work::Encode(code), code.block_len(), input)
+}
+
+fn decode(draw: &mut Draw, side: &dyn Calls, e: u32, wrong: u32) -> Case {
+    let code = code(e);
+    let mut expected = Lent::new(code.frame_len());
+    expected.counts = [wrong, wrong, wrong, wrong, wrong, 0, 0, 0, 5 * wrong];
+    let input = || {
+        expected.octets = draw.octets(code.frame_len());
+        let mut block = vec![0; code.block_len()];
+        assert_eq!(side.encode(code, &expected.octets, &mut block), 0);
+        draw.damage(&mut block, 5, wrong as usize);
+        Input {
+            read: block,
+            expected: Some(expected.clone()),
+        }
+    };
+    let name = format!("decode, E {e}, I 5, Q 0, {wrong} wrong a word");
+    Case::new(name, Work::Decode(code), code.frame_len(), input)
+}
+
+/// Drawn octets have the marker, with up to three wrong bits, about as often as not: it is taken out where it is found.
+fn search(draw: &mut Draw, side: &dyn Calls) -> Case {
+    let mut expected = Lent::new(0);
+    expected.found = [ABSENT, 0, 0, 8 * STREAM as u64 - 31];
+    let input = || {
+        let mut stream = draw.octets(STREAM);
+        let mut found = [FOUND, 0, 0, 0];
+        while found[0] == FOUND {
+            assert_eq!(side.search(3, &stream, 0, u64::MAX, &mut found), 0);
+            if found[0] == FOUND {
+                stream[found[1] as usize / 8 + 1] ^= 255;
+            }
+        }
+        Input {
+            read: stream,
+            expected: Some(expected.clone()),
+        }
+    };
+    let name = format!("search, {STREAM} octets, tolerance 3, absent");
+    Case::new(name, Work::Search, 0, input)
+}
+
+fn convolve(draw: &mut Draw, rate: u32, spelt: &str, symbols: usize) -> Case {
+    let input = || Input {
+        read: draw.octets(2044),
+        expected: None,
+    };
+    let name = format!("convolve, 2044 octets, rate {spelt}");
+    Case::new(name, Work::Convolve(rate), symbols, input)
+}
+
+/// In place: each call undoes the one before, on every side alike.
+fn randomise() -> Case {
+    let input = || Input {
+        read: Vec::new(),
+        expected: None,
+    };
+    let name = "randomise, 1275 octets".to_string();
+    Case::new(name, Work::Randomise, 1275, input)
+}
+
+/// All cases; a side is lent to make their inputs.
+pub fn all(side: &dyn Calls) -> Vec<Case> {
+    let mut draw = Draw::new(1);
+    let mut cases = vec![encode(&mut draw, 16), encode(&mut draw, 8)];
+    for (e, wrong) in [(16, 0), (16, 8), (16, 16), (8, 0), (8, 4), (8, 8)] {
+        cases.push(decode(&mut draw, side, e, wrong));
+    }
+    cases.push(search(&mut draw, side));
+    cases.push(convolve(&mut draw, 1, "1/2", 4088));
+    cases.push(convolve(&mut draw, 5, "7/8", 2336));
+    cases.push(randomise());
+    cases
+}

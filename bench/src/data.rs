@@ -1,0 +1,32 @@
+//! Octets and damage that stand in for data, the same in every run.
+
+pub struct Draw(u64);
+
+impl Draw {
+    pub fn new(seed: u64) -> Draw {
+        Draw(seed.wrapping_mul(0x9E37_79B9_7F4A_7C15) | 1)
+    }
+
+    /// A number below a bound, by xorshift.
+    pub fn below(&mut self, bound: usize) -> usize {
+        self.0 ^= self.0 << 13;
+        self.0 ^= self.0 >> 7;
+        self.0 ^= self.0 << 17;
+        (self.0 >> 32) as usize % bound
+    }
+
+    pub fn octets(&mut self, n: usize) -> Vec<u8> {
+        (0..n).map(|_| self.below(256) as u8).collect()
+    }
+
+    /// Changes so many symbols of each of a block's words, at different places.
+    pub fn damage(&mut self, block: &mut [u8], depth: usize, wrong: usize) {
+        for w in 0..depth {
+            let mut places: Vec<usize> = (w..block.len()).step_by(depth).collect();
+            for _ in 0..wrong {
+                let place = places.swap_remove(self.below(places.len()));
+                block[place] ^= 1 + self.below(255) as u8;
+            }
+        }
+    }
+}

@@ -1,0 +1,109 @@
+//! The proved code, through its C interface.
+
+use crate::calls::{Calls, Code};
+
+extern "C" {
+    fn ironsimmer_encode(
+        e: u32,
+        depth: u32,
+        fill: u32,
+        frame: *const u8,
+        frame_len: usize,
+        block: *mut u8,
+        block_len: usize,
+    ) -> u64;
+    fn ironsimmer_decode(
+        e: u32,
+        depth: u32,
+        fill: u32,
+        s: u32,
+        block: *const u8,
+        block_len: usize,
+        frame: *mut u8,
+        frame_len: usize,
+        counts: *mut u32,
+    ) -> u64;
+    fn ironsimmer_search(
+        tolerance: u32,
+        stream: *const u8,
+        stream_len: usize,
+        start: u64,
+        budget: u64,
+        found: *mut u64,
+    ) -> u64;
+    fn ironsimmer_convolve(
+        rate: u32,
+        data: *const u8,
+        data_len: usize,
+        symbols: *mut u8,
+        symbols_len: usize,
+        count: *mut u32,
+    ) -> u64;
+    fn ironsimmer_randomise(block: *mut u8, block_len: usize) -> u64;
+}
+
+pub struct Ours;
+
+// What the header asks of its caller holds in each call below, since the pointers are those of Rust's references: not null, with as many
+// octets or numbers behind them as are said to be there, and no overlap of what is written with anything else.
+impl Calls for Ours {
+    fn encode(&self, code: Code, frame: &[u8], block: &mut [u8]) -> u64 {
+        let (e, depth, fill) = (code.e, code.depth, code.fill);
+        let out = block.as_mut_ptr();
+        unsafe {
+            ironsimmer_encode(
+                e,
+                depth,
+                fill,
+                frame.as_ptr(),
+                frame.len(),
+                out,
+                block.len(),
+            )
+        }
+    }
+
+    fn decode(
+        &self,
+        code: Code,
+        s: u32,
+        block: &[u8],
+        frame: &mut [u8],
+        counts: &mut [u32; 9],
+    ) -> u64 {
+        unsafe {
+            ironsimmer_decode(
+                code.e,
+                code.depth,
+                code.fill,
+                s,
+                block.as_ptr(),
+                block.len(),
+                frame.as_mut_ptr(),
+                frame.len(),
+                counts.as_mut_ptr(),
+            )
+        }
+    }
+
+    fn search(
+        &self,
+        tolerance: u32,
+        stream: &[u8],
+        start: u64,
+        budget: u64,
+        found: &mut [u64; 4],
+    ) -> u64 {
+        let (octets, len) = (stream.as_ptr(), stream.len());
+        unsafe { ironsimmer_search(tolerance, octets, len, start, budget, found.as_mut_ptr()) }
+    }
+
+    fn convolve(&self, rate: u32, data: &[u8], symbols: &mut [u8], count: &mut u32) -> u64 {
+        let (out, out_len) = (symbols.as_mut_ptr(), symbols.len());
+        unsafe { ironsimmer_convolve(rate, data.as_ptr(), data.len(), out, out_len, count) }
+    }
+
+    fn randomise(&self, block: &mut [u8]) -> u64 {
+        unsafe { ironsimmer_randomise(block.as_mut_ptr(), block.len()) }
+    }
+}
