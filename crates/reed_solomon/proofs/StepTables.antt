@@ -119,9 +119,14 @@ masked zero octet h = refl
 masked (suc zero) octet h = and-comm 255 octet ∙ and-mask octet 8
 masked (suc (suc bit)) octet h = absurd (omega arith)
 
-pub mask-added : (bit octet sum row : ℕ) → sum ≡ row → bitXor sum (bitAnd (255 * (bit % 2)) octet) ≡ row ⊕ whereSet (bit % 2) (octet % 256)
-mask-added bit octet sum row e =
-    sym (⊕-is sum (bitAnd (255 * (bit % 2)) octet)) ∙ ap₂ (λ (x y : ℕ). x ⊕ y) e (masked (bit % 2) octet (mod-lt bit (omega arith)))
+pub mask-added : (bit octet sum row mask : ℕ) → mask ≡ 255 * (bit % 2) → sum ≡ row → bitXor sum (bitAnd mask octet) ≡ row ⊕ whereSet (bit % 2) (octet % 256)
+mask-added bit octet sum row mask m e =
+    sym (⊕-is sum (bitAnd mask octet)) ∙ ap₂ (λ (x y : ℕ). x ⊕ y) e (ap (λ (k : ℕ). bitAnd k octet) m ∙ masked (bit % 2) octet (mod-lt bit (omega arith)))
+
+pub mask-listed : (bit : ℕ) → bit < 2 → getD (0 ∷ 255 ∷ []) bit 0 ≡ 255 * bit
+mask-listed zero h = refl
+mask-listed (suc zero) h = refl
+mask-listed (suc (suc bit)) h = absurd (omega arith)
 
 -- ---- one bit after the other
 

@@ -1,6 +1,7 @@
 -- `with_bit` adds the row of one bit, octet by octet, through a mask that is zero where the bit is clear.
 use mathlib.Core.Path.{refl, _∙_}
 use Prim.Native.Nat.{ℕ, _≤_, _-_, _+_, _*_, _/_, _%_, _^_}
+use native.Mathlib.Nat.{mod-lt}
 use native.Mathlib.Omega.{arith}
 use lib.ListN.{getD}
 use Rattle.field.specs.Field.{_⊕_, whereSet}
@@ -18,17 +19,17 @@ Inv-loop table feedback bit mask first sum₀ j₀ sum j =
 abbrev μ-loop : tie.MeasureT-loop
 μ-loop table feedback bit mask first sum₀ j₀ sum j = 32 - j
 
-sub-mask : tie.Need-sub-mask Inv-loop μ-loop
-sub-mask c = search needs
+sub-mask-of : tie.Need-sub-mask-of Inv-loop μ-loop
+sub-mask-of c = search needs
 
-cast-mask : tie.Need-cast-mask Inv-loop μ-loop
-cast-mask c = search needs
+cast-mask-of : tie.Need-cast-mask-of Inv-loop μ-loop
+cast-mask-of c = search needs
 
-shr-mask : tie.Need-shr-mask Inv-loop μ-loop
-shr-mask c = search needs
+shr-mask-of : tie.Need-shr-mask-of Inv-loop μ-loop
+shr-mask-of c = search needs
 
-mul-mask : tie.Need-mul-mask Inv-loop μ-loop
-mul-mask c = search needs
+mask-of-requires : tie.Need-mask-of-requires Inv-loop μ-loop
+mask-of-requires c κs = mod-lt _ (omega arith)
 
 mul-first : tie.Need-mul-first Inv-loop μ-loop
 mul-first c = search needs
@@ -58,7 +59,7 @@ loop-again : tie.Need-loop-again Inv-loop μ-loop
 loop-again c = (
   omega arith,
   filled-turn _ _ _ (c .before .before .loop .j) _ _ _ (omega arith) (search needs)
-      (mask-added _ _ _ _ (c .before .before .loop .inv .1 .rest (c .before .before .loop .j) (omega arith))) refl (c .before .before .loop .inv .1),
+      (mask-added _ _ _ _ _ (c .before .before .before .mask-of .ensures) (c .before .before .loop .inv .1 .rest (c .before .before .loop .j) (omega arith))) refl (c .before .before .loop .inv .1),
 )
 
 returns : tie.Need-returns Inv-loop μ-loop
@@ -70,10 +71,10 @@ with-bit-spec =
     (tie.spec
     Inv-loop
     μ-loop
-    sub-mask
-    cast-mask
-    shr-mask
-    mul-mask
+    sub-mask-of
+    cast-mask-of
+    shr-mask-of
+    mask-of-requires
     mul-first
     loop-holds
     array-read-sum
