@@ -75,7 +75,7 @@ impl Code {
 pub struct Decoding {
     pub answer: String,
     pub counts: [usize; 8],
-    frame: Vec<u8>,
+    pub frame: Vec<u8>,
 }
 
 impl Decoding {

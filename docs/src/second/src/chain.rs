@@ -1,4 +1,4 @@
-//! The chain's cases of the program `vectors`: transmit and receive put together from this program's own parts.
+//! Transmit and receive put together from this program's own parts, and the chain's cases of the program `vectors`.
 
 use crate::blocks::{Code, Decoding};
 use crate::data::{bits, buffer, drawn};
@@ -16,7 +16,7 @@ fn randomised_if(flag: bool, block: &[u8]) -> Vec<u8> {
 }
 
 /// The number, and the marked block as it is afterwards.
-fn transmit(code: Code, flag: bool, frame: &[u8], before: &[u8]) -> (u64, Vec<u8>) {
+pub fn transmit(code: Code, flag: bool, frame: &[u8], before: &[u8]) -> (u64, Vec<u8>) {
     let number = transmit_number(code.e, code.i, code.q, frame.len() as u64, before.len() as u64);
     if number != 0 {
         return (number, before.to_vec());
@@ -26,7 +26,7 @@ fn transmit(code: Code, flag: bool, frame: &[u8], before: &[u8]) -> (u64, Vec<u8
 }
 
 /// The answer with its stage, number and value, and what decode reports.
-fn receive(code: Code, s: u64, t: u64, flag: bool, marked: &[u8], before: &[u8]) -> Decoding {
+pub fn receive(code: Code, s: u64, t: u64, flag: bool, marked: &[u8], before: &[u8]) -> Decoding {
     let number = receive_number(code.e, code.i, code.q, s, t, marked.len() as u64, before.len() as u64);
     if number != 0 {
         return Decoding::refused(format!("parameters {number} 0"), before);

@@ -24,24 +24,31 @@ fn symbols(rate: usize, data: &[u8]) -> Vec<bool> {
     out
 }
 
-fn convolve(rate: u32, data: &[u8], output: &[u8]) {
-    let refused = |number: u32| println!("convolve {rate} {number}{}", buffer(output));
+/// The number of symbols and the octets that hold them, which must be as many as the output has; or the refusal's number.
+pub fn convolve(rate: u32, data: &[u8], output: usize) -> Result<(usize, Vec<u8>), u64> {
     if !(1..=5).contains(&rate) {
-        return refused(7);
+        return Err(7);
     }
     if data.len() > 2044 {
-        return refused(5);
+        return Err(5);
     }
     let symbols = symbols(rate as usize, data);
     let octets = packed(&symbols);
-    if octets.len() != output.len() {
-        return refused(6);
+    if octets.len() != output {
+        return Err(6);
     }
-    println!("convolve {rate} 0 {}{}", symbols.len(), buffer(&octets));
+    Ok((symbols.len(), octets))
+}
+
+fn write_convolve(rate: u32, data: &[u8], output: &[u8]) {
+    match convolve(rate, data, output.len()) {
+        Ok((count, octets)) => println!("convolve {rate} 0 {count}{}", buffer(&octets)),
+        Err(number) => println!("convolve {rate} {number}{}", buffer(output)),
+    }
 }
 
 fn drawn_case(rate: u32, octets: usize, output: usize) {
-    convolve(rate, &drawn(rate % 256 + 3, 2045)[..octets], &vec![170; output]);
+    write_convolve(rate, &drawn(rate % 256 + 3, 2045)[..octets], &vec![170; output]);
 }
 
 pub fn write_all() {

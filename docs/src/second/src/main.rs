@@ -2,19 +2,7 @@
 //! `second NAME` writes what the program NAME must write; `second report-input NAME` and `second report-output NAME` write what a
 //! report program reads and what it must write of that.
 
-mod blocks;
-mod chain;
-mod compare;
-mod convolution;
-mod data;
-mod field;
-mod limits;
-mod marker;
-mod randomiser;
-mod reed_solomon;
-mod report;
-mod symbols;
-mod word;
+use second::{chain, compare, convolution, limits, marker, randomiser, reed_solomon, report, symbols};
 
 fn main() {
     let argument = |n: usize| std::env::args().nth(n).unwrap_or_default();

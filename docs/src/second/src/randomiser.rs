@@ -2,7 +2,8 @@
 
 use crate::data::{bits, buffer, drawn, packed};
 
-fn sequence(first: &[bool], n: usize) -> Vec<bool> {
+/// The first n bits of the sequence whose first eight bits are given.
+pub fn sequence(first: &[bool], n: usize) -> Vec<bool> {
     let mut b = first.to_vec();
     for k in 0..n {
         b.push(b[k] ^ b[k + 3] ^ b[k + 5] ^ b[k + 7]);
@@ -23,7 +24,7 @@ pub fn randomised(block: &[u8]) -> Result<Vec<u8>, u64> {
 
 pub fn write_all() {
     // As source 000 prints the first 40 bits.
-    println!("sequence {}", "11111111 01001000 00001110 11000000 10011010");
+    println!("sequence 11111111 01001000 00001110 11000000 10011010");
     for content in 0..=255u8 {
         let next = packed(&sequence(&bits(&[content]), 16));
         println!("register {:02x} {:02x}", next[0], next[1]);

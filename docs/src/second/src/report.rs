@@ -2,7 +2,7 @@
 
 use crate::blocks::Code;
 use crate::data::{bits, drawn};
-use crate::marker::{MARKER, wrong};
+use crate::marker::{wrong, MARKER};
 use crate::randomiser::randomised;
 use std::io::Write;
 

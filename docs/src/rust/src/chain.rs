@@ -1,0 +1,35 @@
+//! From frames to marked blocks and back.
+
+use crate::marker::MARKER;
+use crate::raw;
+use crate::refusal::{accepted, Refusal};
+use crate::words::{Report, Words};
+
+/// What both ends of a link must have in common.
+#[derive(Clone, Copy, Debug, PartialEq, Eq, Hash)]
+pub struct Chain {
+    /// How a block is made of words.
+    pub words: Words,
+    /// Whether the block, but not its marker, is randomised.
+    pub randomised: bool,
+}
+
+impl Chain {
+    /// The octets of a marked block, (255 - Q) I + 4. Refuses by 1, 2, 3.
+    pub fn marked_len(self) -> Result<usize, Refusal> {
+        Ok(MARKER.len() + self.words.block_len()?)
+    }
+
+    /// Codes a frame, randomises the block if the chain does, and puts the marker in front. Refuses by 1, 2, 3, 5, 6.
+    pub fn transmit(self, frame: &[u8], marked: &mut [u8]) -> Result<(), Refusal> {
+        accepted(raw::transmit(self.words, self.randomised, frame, marked))
+    }
+
+    /// Tests the marker, undoes the randomising if the chain does it, and decodes the block. `allowance` is of wrong symbols in each
+    /// word, `tolerance` of wrong bits in the marker. Refuses by 1, 2, 3, 4, 8, 5, 6, 9, 10.
+    pub fn receive(self, allowance: u32, tolerance: u32, marked: &[u8], frame: &mut [u8]) -> Result<Report, Refusal> {
+        let mut counts = [0; 9];
+        accepted(raw::receive(self.words, allowance, tolerance, self.randomised, marked, frame, &mut counts))?;
+        Ok(Report::of(counts))
+    }
+}

@@ -1,0 +1,19 @@
+#![doc = include_str!("../README.md")]
+#![no_std]
+#![deny(missing_docs, unsafe_code, unsafe_op_in_unsafe_fn)]
+
+mod chain;
+mod convolution;
+mod marker;
+mod randomiser;
+#[allow(unsafe_code)]
+mod raw;
+mod refusal;
+mod words;
+
+pub use chain::Chain;
+pub use convolution::{convolve, symbols_len};
+pub use marker::{search, test_marker, Search, MARKER};
+pub use randomiser::{randomise, Sequence};
+pub use refusal::Refusal;
+pub use words::{Report, Words};

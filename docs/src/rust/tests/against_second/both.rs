@@ -1,0 +1,136 @@
+//! The nine calls, each made in both programs on the same input. All that they answer and leave behind is compared.
+
+use ironsimmer::{Chain, Refusal, Report, Search, Sequence, Words};
+use second::blocks::{Code, Decoding};
+use second::data::{bits, packed};
+use second::marker::Searched;
+
+const GUARD: [u8; 8] = [0xC5; 8];
+
+/// Lends a buffer to a call, and gives the answer and the buffer as it is afterwards. Octets beside the buffer must stay as they are.
+fn lent<T>(before: &[u8], call: impl FnOnce(&mut [u8]) -> T) -> (T, Vec<u8>) {
+    let mut around = [&GUARD, before, &GUARD].concat();
+    let inside = GUARD.len()..GUARD.len() + before.len();
+    let answer = call(&mut around[inside.clone()]);
+    assert_eq!((&around[..inside.start], &around[inside.end..]), (&GUARD[..], &GUARD[..]), "octets beside the buffer");
+    (answer, around[inside].to_vec())
+}
+
+/// An answer's number and value; 0 and 0 if accepted.
+fn numbers<T>(answer: &Result<T, Refusal>) -> (u64, u64) {
+    match answer {
+        Ok(_) => (0, 0),
+        Err(Refusal::Marker { wrong_bits }) => (9, u64::from(*wrong_bits)),
+        Err(Refusal::Word { word }) => (10, u64::from(*word)),
+        Err(refusal) => (u64::from(refusal.number()), 0),
+    }
+}
+
+fn code(words: Words) -> Code {
+    Code { e: words.strength.into(), i: words.depth.into(), q: words.fill.into() }
+}
+
+/// Demands that a decoding is the second program's, whose answer tells the number and perhaps the value, in a chain after the stage.
+fn same_decoding(answer: &Result<Report, Refusal>, frame: &[u8], expected: &Decoding, case: &str) {
+    let mut told = expected.answer.split(' ').filter_map(|word| word.parse().ok());
+    let number_and_value = (told.next().unwrap(), told.next().unwrap_or(0));
+    assert_eq!(numbers(answer), number_and_value, "{case}");
+    assert_eq!(frame, expected.frame, "{case}");
+    if let Ok(report) = answer {
+        let counts = expected.counts.map(|count| count as u32);
+        assert_eq!(*report, Report { counts, total: counts.iter().sum() }, "{case}");
+    }
+}
+
+/// The answer, and the block as it is afterwards.
+pub fn encode(words: Words, frame: &[u8], before: &[u8]) -> (Result<(), Refusal>, Vec<u8>) {
+    let (answer, block) = lent(before, |block| words.encode(frame, block));
+    let (number, expected) = code(words).encode(frame, before);
+    assert_eq!(numbers(&answer), (number, 0), "{words:?}");
+    assert_eq!(block, expected, "{words:?}");
+    (answer, block)
+}
+
+/// The answer, and the frame as it is afterwards.
+pub fn decode(words: Words, allowance: u32, block: &[u8], before: &[u8]) -> (Result<Report, Refusal>, Vec<u8>) {
+    let (answer, frame) = lent(before, |frame| words.decode(allowance, block, frame));
+    let expected = code(words).decode(allowance.into(), block, before);
+    same_decoding(&answer, &frame, &expected, &format!("{words:?}, allowance {allowance}"));
+    (answer, frame)
+}
+
+/// The answer, and the marked block as it is afterwards.
+pub fn transmit(chain: Chain, frame: &[u8], before: &[u8]) -> (Result<(), Refusal>, Vec<u8>) {
+    let (answer, marked) = lent(before, |marked| chain.transmit(frame, marked));
+    let (number, expected) = second::chain::transmit(code(chain.words), chain.randomised, frame, before);
+    assert_eq!(numbers(&answer), (number, 0), "{chain:?}");
+    assert_eq!(marked, expected, "{chain:?}");
+    (answer, marked)
+}
+
+/// The answer, and the frame as it is afterwards.
+pub fn receive(
+    chain: Chain,
+    allowance: u32,
+    tolerance: u32,
+    marked: &[u8],
+    before: &[u8],
+) -> (Result<Report, Refusal>, Vec<u8>) {
+    let (answer, frame) = lent(before, |frame| chain.receive(allowance, tolerance, marked, frame));
+    let (s, t) = (allowance.into(), tolerance.into());
+    let expected = second::chain::receive(code(chain.words), s, t, chain.randomised, marked, before);
+    same_decoding(&answer, &frame, &expected, &format!("{chain:?}, allowance {allowance}, tolerance {tolerance}"));
+    (answer, frame)
+}
+
+/// The answer, and the block as it is afterwards.
+pub fn randomise(before: &[u8]) -> (Result<(), Refusal>, Vec<u8>) {
+    let (answer, block) = lent(before, ironsimmer::randomise);
+    match second::randomiser::randomised(before) {
+        Ok(expected) => assert_eq!((numbers(&answer), &block), ((0, 0), &expected)),
+        Err(number) => assert_eq!((numbers(&answer), &block[..]), ((number, 0), before)),
+    }
+    (answer, block)
+}
+
+/// So many octets of the sequence from a register on, and the register's content afterwards, which is the octet after them.
+pub fn sequence(register: u8, n: usize) -> Vec<u8> {
+    let mut sequence = Sequence::from_register(register);
+    let mut octets: Vec<u8> = sequence.by_ref().take(n).collect();
+    octets.push(sequence.register());
+    assert_eq!(octets, packed(&second::randomiser::sequence(&bits(&[register]), 8 * (n + 1))));
+    octets
+}
+
+pub fn test_marker(tolerance: u32, octets: &[u8]) -> Result<u32, Refusal> {
+    let answer = ironsimmer::test_marker(tolerance, octets);
+    let told = match answer {
+        Ok(wrong_bits) => (0, Some(wrong_bits)),
+        Err(Refusal::Marker { wrong_bits }) => (9, Some(wrong_bits)),
+        Err(refusal) => (u64::from(refusal.number()), None),
+    };
+    assert_eq!(told, second::marker::test(tolerance, octets));
+    answer
+}
+
+pub fn search(tolerance: u32, stream: &[u8], start: u64, budget: u64) -> Result<Search, Refusal> {
+    let answer = ironsimmer::search(tolerance, stream, start, budget);
+    let expected = second::marker::search(tolerance, stream, start, budget).map(|searched| match searched {
+        Searched::Found { place, wrong, looked } => Search::Found { place, wrong_bits: wrong, looked },
+        Searched::Absent { looked } => Search::Absent { looked },
+        Searched::Spent { next, looked } => Search::Spent { next, looked },
+    });
+    let case = format!("tolerance {tolerance}, start {start}, budget {budget}");
+    assert_eq!(answer.map_err(|refusal| u64::from(refusal.number())), expected, "{case}");
+    answer
+}
+
+/// The answer, and the symbols as they are afterwards.
+pub fn convolve(rate: u32, data: &[u8], before: &[u8]) -> (Result<u32, Refusal>, Vec<u8>) {
+    let (answer, symbols) = lent(before, |symbols| ironsimmer::convolve(rate, data, symbols));
+    match second::convolution::convolve(rate, data, before.len()) {
+        Ok((count, expected)) => assert_eq!((answer, &symbols), (Ok(count as u32), &expected), "rate {rate}"),
+        Err(number) => assert_eq!((numbers(&answer), &symbols[..]), ((number, 0), before), "rate {rate}"),
+    }
+    (answer, symbols)
+}

@@ -1,0 +1,14 @@
+//! The proved code, called through this crate, against the second program (`docs/src/second`), which was written from the same document
+//! by other methods. Every call of `both` is made in both programs, and all that it answers and leaves behind must be the same.
+//!
+//! Inputs are drawn, the same at every run. Run with `--nocapture` the tests say how many calls they compared.
+
+mod blocks;
+mod both;
+mod chain;
+mod convolution;
+mod draw;
+mod limits;
+mod marker;
+mod randomiser;
+mod tally;

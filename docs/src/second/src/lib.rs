@@ -1,0 +1,16 @@
+//! The second program's parts, for its own `main` and for other programs' tests: document 01 once more, in plain Rust and by other
+//! methods than the proved code. Each call takes what the proved call takes and gives back what that must leave behind.
+
+pub mod blocks;
+pub mod chain;
+pub mod compare;
+pub mod convolution;
+pub mod data;
+pub mod field;
+pub mod limits;
+pub mod marker;
+pub mod randomiser;
+pub mod reed_solomon;
+pub mod report;
+pub mod symbols;
+pub mod word;
