@@ -49,7 +49,7 @@ enum ironsimmer_search_kind {
 /*
  * Codes a frame of (255 - 2E - Q) I octets as a block of (255 - Q) I octets: the frame, then 2E check octets for each of its I
  * interleaved words. Strength E is 8 or 16; Q symbols of fill in each word, all zero, are not sent.
- * Refuses by 1, 2, 3, 5, 6.
+ * Refuses by 1, 2, 3, 5, 6, and then leaves the block as it was.
  */
 uint64_t ironsimmer_encode(uint32_t e, uint32_t depth, uint32_t fill,
                            const uint8_t *frame, size_t frame_len, uint8_t *block, size_t block_len);
@@ -57,14 +57,14 @@ uint64_t ironsimmer_encode(uint32_t e, uint32_t depth, uint32_t fill,
 /*
  * Decodes a block: delivered exactly if every word lies within s symbols of a codeword whose fill is all zero. The frame is that of
  * those codewords; counts holds the number of differing symbols of each of eight words, 0 beyond the depth, then their total.
- * Refuses by 1, 2, 3, 4, 5, 6, 10.
+ * Refuses by 1, 2, 3, 4, 5, 6, 10, and then leaves frame and counts as they were.
  */
 uint64_t ironsimmer_decode(uint32_t e, uint32_t depth, uint32_t fill, uint32_t s,
                            const uint8_t *block, size_t block_len, uint8_t *frame, size_t frame_len, uint32_t counts[9]);
 
 /*
  * Adds the pseudo-random sequence to a block of at most 2,040 octets, in place, from the sequence's beginning. The same call undoes it.
- * Refuses by 5.
+ * Refuses by 5, and then leaves the block as it was.
  */
 uint64_t ironsimmer_randomise(uint8_t *block, size_t block_len);
 
@@ -76,7 +76,7 @@ uint8_t ironsimmer_sequence(uint8_t *reg);
 
 /*
  * Tests four octets against the marker 1A CF FC 1D: accepted, with the number of wrong bits, if that is at most the tolerance (0 to 3).
- * Refuses by 8, 5, 9.
+ * Refuses by 8, 5, 9, and then leaves *wrong as it was.
  */
 uint64_t ironsimmer_marker(uint32_t tolerance, const uint8_t *octets, size_t octets_len, uint32_t *wrong);
 
@@ -84,7 +84,7 @@ uint64_t ironsimmer_marker(uint32_t tolerance, const uint8_t *octets, size_t oct
  * Looks for the marker at every bit of a stream of at most 65,536 octets, from bit `start` on, at no more than `budget` places.
  * found holds the kind (IRONSIMMER_FOUND, IRONSIMMER_ABSENT, IRONSIMMER_SPENT), the place (the first that fits; if spent, the next to
  * look at; if absent, 0), the wrong bits there (0 unless found), and how many places were looked at.
- * Refuses by 8, 5, 11.
+ * Refuses by 8, 5, 11, and then leaves found as it was.
  */
 uint64_t ironsimmer_search(uint32_t tolerance, const uint8_t *stream, size_t stream_len,
                            uint64_t start, uint64_t budget, uint64_t found[4]);
@@ -92,14 +92,14 @@ uint64_t ironsimmer_search(uint32_t tolerance, const uint8_t *stream, size_t str
 /*
  * Convolutional symbols of at most 2,044 octets at rates 1 to 5 (1/2, 2/3, 3/4, 5/6, 7/8), packed top bit first, the last octet filled
  * with zeros. Of n octets there are 8n + ceil(8n / p) symbols, p = 1, 2, 3, 5, 7, in so many octets as hold them; count is their number.
- * Refuses by 7, 5, 6.
+ * Refuses by 7, 5, 6, and then leaves symbols and count as they were.
  */
 uint64_t ironsimmer_convolve(uint32_t rate, const uint8_t *data, size_t data_len,
                              uint8_t *symbols, size_t symbols_len, uint32_t *count);
 
 /*
  * Codes a frame as encode does, randomises the block unless `randomised` is 0, and puts the marker in front: (255 - Q) I + 4 octets.
- * Refuses by 1, 2, 3, 5, 6.
+ * Refuses by 1, 2, 3, 5, 6, and then leaves the marked block as it was.
  */
 uint64_t ironsimmer_transmit(uint32_t e, uint32_t depth, uint32_t fill, uint32_t randomised,
                              const uint8_t *frame, size_t frame_len, uint8_t *marked, size_t marked_len);
@@ -107,7 +107,7 @@ uint64_t ironsimmer_transmit(uint32_t e, uint32_t depth, uint32_t fill, uint32_t
 /*
  * Tests the marker of a marked block, randomises the block again unless `randomised` is 0, and decodes it; frame and counts as in
  * decode. The marked block is not changed.
- * Refuses by 1, 2, 3, 4, 8, 5, 6, 9, 10.
+ * Refuses by 1, 2, 3, 4, 8, 5, 6, 9, 10, and then leaves frame and counts as they were.
  */
 uint64_t ironsimmer_receive(uint32_t e, uint32_t depth, uint32_t fill, uint32_t s, uint32_t tolerance, uint32_t randomised,
                             const uint8_t *marked, size_t marked_len, uint8_t *frame, size_t frame_len, uint32_t counts[9]);
