@@ -51,7 +51,7 @@ pub record GoodWord (m E s : ℕ) (d r c : List ℕ) : Type 0 where
   pub code : Code m (E + E) c
   pub close : weight (unmarkedPart d (r ⊞ c)) + weight (unmarkedPart d (r ⊞ c)) + weight d ≤ s + s
 
--- A polynomial times x + z for the locator z of each marked place; and so one.
+-- A polynomial times x + z for the locator z of each marked place; and the product of these alone.
 unfoldable pub timesMarks : List ℕ → List ℕ → List ℕ
 timesMarks [] p = p
 timesMarks (zero ∷ d) p = timesMarks d p

@@ -14,11 +14,12 @@ use Rattle.refusals.specs.declared.WordRefusal.the-variants as word
 use Rattle.refusals.proofs.Verdicts.{parameter-nonzero}
 use Rattle.reed_solomon.specs.declared.Decoded.{Decoded}
 use Rattle.reed_solomon.specs.declared.Decoded.the-variants as decoded
-use Rattle.reed_solomon.specs.Outcome.{DecodeOutcome}
+use Rattle.reed_solomon.specs.Outcome.{DecodeOutcome, decodedNumber, decodedValue}
 use Rattle.marker.specs.declared.Tested.{Tested}
 use Rattle.marker.specs.declared.Tested.the-variants as tested
 use Rattle.marker.specs.declared.Searched.{Searched}
 use Rattle.marker.specs.declared.Searched.the-variants as searched
+use Rattle.marker.specs.Numbers.{searchedNumber}
 use Rattle.marker.specs.Outcome.{TestOutcome}
 use Rattle.convolution.specs.declared.Convolved.{Convolved}
 use Rattle.convolution.specs.declared.Convolved.the-variants as convolved
@@ -28,7 +29,7 @@ use Rattle.chain.specs.declared.Stage.the-variants as stage
 use Rattle.chain.specs.declared.Received.{Received}
 use Rattle.chain.specs.declared.Received.the-variants as received
 use Rattle.chain.specs.Outcome.{ReceiveOutcome, receivedNumber, receivedValue}
-use Rattle.ironsimmer.specs.Calls.{code, stageCode, flag, Filled, Told, DecodeCall, MarkerCall, Reported, ConvolveCall, ReceiveCall}
+use Rattle.ironsimmer.specs.Calls.{code, stageCode, flag, searchReport, Lent, DecodingCall, DecodeCall, MarkerCall, Reported, ConvolveCall, ReceiveCall}
 
 -- ---- one number for an answer
 
@@ -63,17 +64,12 @@ stage-code (stage.Word r) = refl
 
 -- ---- what was lent for the report
 
-pub filled-refused : (number : ℕ) (report before : List ℕ) → number ≢ 0 → Filled number report before before
-filled-refused number report before z = record { refused = λ n. refl; accepted = λ e. absurd (z e) }
+module _ {A : Type 0} where
+  pub lent-refused : (number : ℕ) (report before : A) → number ≢ 0 → Lent number report before before
+  lent-refused number report before z = record { refused = λ n. refl; accepted = λ e. absurd (z e) }
 
-pub filled-accepted : (report before : List ℕ) → Filled 0 report before report
-filled-accepted report before = record { refused = λ n. absurd (n refl); accepted = λ e. refl }
-
-pub told-refused : (number report before : ℕ) → number ≢ 0 → Told number report before before
-told-refused number report before z = record { refused = λ n. refl; accepted = λ e. absurd (z e) }
-
-pub told-accepted : (report before : ℕ) → Told 0 report before report
-told-accepted report before = record { refused = λ n. absurd (n refl); accepted = λ e. refl }
+  pub lent-accepted : (number : ℕ) (report before after : A) → number ≡ 0 → after ≡ report → Lent number report before after
+  lent-accepted number report before after z e = record { refused = λ n. absurd (n z); accepted = λ w. e }
 
 -- ---- the calls
 
@@ -85,7 +81,7 @@ module _ (tolerance : ℕ) (octets : List ℕ) (before : ℕ) {answer : Tested} 
         outcome = subst (TestOutcome tolerance octets) e o;
         coded = λ n. absurd (n refl);
         accepted = λ z. refl;
-        told = told-accepted bits before;
+        lent = lent-accepted 0 bits before bits refl refl;
       }
 
   pub marker-refused : (r : MarkerRefusal) (n : ℕ) → answer ≡ tested.Refused r → TestOutcome tolerance octets answer → n ≡ markerCode r
@@ -96,7 +92,7 @@ module _ (tolerance : ℕ) (octets : List ℕ) (before : ℕ) {answer : Tested} 
         outcome = subst (TestOutcome tolerance octets) e o;
         coded = λ z. c;
         accepted = λ z. absurd (marker-nonzero r z);
-        told = told-refused (markerNumber r) (markerValue r) before (marker-nonzero r);
+        lent = lent-refused (markerNumber r) (markerValue r) before (marker-nonzero r);
       }
 
 module _ (rate : ℕ) (octets before : List ℕ) (counted : ℕ) (after : List ℕ) {answer : Convolved} where
@@ -107,7 +103,7 @@ module _ (rate : ℕ) (octets before : List ℕ) (counted : ℕ) (after : List �
         convolved = convolved.Done count;
         outcome = subst (λ (a : Convolved). ConvolveOutcome rate octets before a after) e o;
         coded = refl;
-        told = told-accepted count counted;
+        lent = lent-accepted 0 count counted count refl refl;
       }
 
   pub convolve-refused : (p : Parameter) (n : ℕ) → answer ≡ convolved.Refused p → ConvolveOutcome rate octets before answer after → n ≡ parameterNumber p
@@ -117,58 +113,59 @@ module _ (rate : ℕ) (octets before : List ℕ) (counted : ℕ) (after : List �
         convolved = convolved.Refused p;
         outcome = subst (λ (a : Convolved). ConvolveOutcome rate octets before a after) e o;
         coded = c;
-        told = told-refused (parameterNumber p) 0 counted (parameter-nonzero p);
+        lent = lent-refused (parameterNumber p) 0 counted (parameter-nonzero p);
+      }
+
+-- Decode and receive, over what is permitted of their answers.
+module _ {Answer : Type 0} (numberOf valueOf : Answer → ℕ) (Permits : Answer → List ℕ → ℕ → List ℕ → Type 0) (before counts : List ℕ) (total : ℕ)
+    (after : List ℕ) (answer : Answer) (permitted : Permits answer counts total after) where
+  decoding-delivered : (report : List ℕ) → numberOf answer ≡ 0 → valueOf answer ≡ 0 → report ≡ counts ++ (total ∷ [])
+      → DecodingCall numberOf valueOf Permits before 0 after report
+  decoding-delivered report z v r =
+      record {
+        answered = answer;
+        counts = counts;
+        total = total;
+        outcome = permitted;
+        coded = omega arith;
+        lent = lent-accepted (numberOf answer) (counts ++ (total ∷ [])) before report z r;
+      }
+
+  decoding-refused : (n : ℕ) → numberOf answer ≢ 0 → n ≡ code (numberOf answer) (valueOf answer) → DecodingCall numberOf valueOf Permits before n after before
+  decoding-refused n z c =
+      record {
+        answered = answer;
+        counts = counts;
+        total = total;
+        outcome = permitted;
+        coded = c;
+        lent = lent-refused (numberOf answer) (counts ++ (total ∷ [])) before z;
       }
 
 module _ (e i q s : ℕ) (block before reported counts : List ℕ) (total : ℕ) (after : List ℕ) {answer : Decoded} where
   pub decode-delivered : (report : List ℕ) → answer ≡ decoded.Delivered → DecodeOutcome e i q s block before answer counts total after → report ≡ counts ++ (total ∷ [])
       → DecodeCall e i q s block before reported 0 after report
   decode-delivered report known o r =
-      record {
-        decoded = decoded.Delivered;
-        counts = counts;
-        total = total;
-        outcome = subst (λ (a : Decoded). DecodeOutcome e i q s block before a counts total after) known o;
-        coded = omega arith;
-        filled = subst (Filled 0 (counts ++ (total ∷ [])) reported) (sym r) (filled-accepted (counts ++ (total ∷ [])) reported);
-      }
+      decoding-delivered decodedNumber decodedValue (DecodeOutcome e i q s block before) reported counts total after answer o report (ap decodedNumber known) (ap decodedValue known) r
 
   pub decode-refused : (r : WordRefusal) (n : ℕ) → answer ≡ decoded.Refused r → DecodeOutcome e i q s block before answer counts total after → n ≡ wordCode r
       → DecodeCall e i q s block before reported n after reported
   decode-refused r n known o c =
-      record {
-        decoded = decoded.Refused r;
-        counts = counts;
-        total = total;
-        outcome = subst (λ (a : Decoded). DecodeOutcome e i q s block before a counts total after) known o;
-        coded = c;
-        filled = filled-refused (wordNumber r) (counts ++ (total ∷ [])) reported (word-nonzero r);
-      }
+      decoding-refused decodedNumber decodedValue (DecodeOutcome e i q s block before) reported counts total after answer o n (λ z. word-nonzero r (ap decodedNumber (sym known) ∙ z))
+      (known-answer (λ (a : Decoded). code (decodedNumber a) (decodedValue a)) known c)
 
 module _ (e i q s t randomised : ℕ) (marked before reported counts : List ℕ) (total : ℕ) (after : List ℕ) {answer : Received} where
   pub receive-delivered : (report : List ℕ) → answer ≡ received.Delivered → ReceiveOutcome e i q s t (flag randomised) marked before answer counts total after
       → report ≡ counts ++ (total ∷ []) → ReceiveCall e i q s t randomised marked before reported 0 after report
   receive-delivered report known o r =
-      record {
-        received = received.Delivered;
-        counts = counts;
-        total = total;
-        outcome = subst (λ (a : Received). ReceiveOutcome e i q s t (flag randomised) marked before a counts total after) known o;
-        coded = omega arith;
-        filled = subst (Filled 0 (counts ++ (total ∷ [])) reported) (sym r) (filled-accepted (counts ++ (total ∷ [])) reported);
-      }
+      decoding-delivered receivedNumber receivedValue (ReceiveOutcome e i q s t (flag randomised) marked before) reported counts total after answer o report
+      (ap receivedNumber known) (ap receivedValue known) r
 
   pub receive-refused : (stage : Stage) (n : ℕ) → answer ≡ received.Refused stage → ReceiveOutcome e i q s t (flag randomised) marked before answer counts total after
       → n ≡ stageCode stage → ReceiveCall e i q s t randomised marked before reported n after reported
   receive-refused stage n known o c =
-      record {
-        received = received.Refused stage;
-        counts = counts;
-        total = total;
-        outcome = subst (λ (a : Received). ReceiveOutcome e i q s t (flag randomised) marked before a counts total after) known o;
-        coded = c ∙ stage-code stage;
-        filled = filled-refused (receivedNumber (received.Refused stage)) (counts ++ (total ∷ [])) reported (stage-nonzero stage);
-      }
+      decoding-refused receivedNumber receivedValue (ReceiveOutcome e i q s t (flag randomised) marked before) reported counts total after answer o n
+      (λ z. stage-nonzero stage (ap receivedNumber (sym known) ∙ z)) (known-answer (λ (a : Received). code (receivedNumber a) (receivedValue a)) known (c ∙ stage-code stage))
 
 -- ---- the search's report
 
@@ -177,21 +174,14 @@ module _ (before : List ℕ) {answer : Searched} where
   by-kind : (kind : Searched) (n : ℕ) (after : List ℕ) → answer ≡ kind → Reported kind before n after → Reported answer before n after
   by-kind kind n after e r = subst (λ (a : Searched). Reported a before n after) (sym e) r
 
-  pub search-found : (place wrong looked : ℕ) → answer ≡ searched.Found place wrong looked → Reported answer before 0 (1 ∷ place ∷ wrong ∷ looked ∷ [])
-  search-found place wrong looked e =
-      by-kind (searched.Found place wrong looked) 0 (1 ∷ place ∷ wrong ∷ looked ∷ []) e (record { coded = refl; filled = filled-accepted (1 ∷ place ∷ wrong ∷ looked ∷ []) before })
-
-  pub search-absent : (looked : ℕ) → answer ≡ searched.Absent looked → Reported answer before 0 (2 ∷ 0 ∷ 0 ∷ looked ∷ [])
-  search-absent looked e =
-      by-kind (searched.Absent looked) 0 (2 ∷ 0 ∷ 0 ∷ looked ∷ []) e (record { coded = refl; filled = filled-accepted (2 ∷ 0 ∷ 0 ∷ looked ∷ []) before })
-
-  pub search-spent : (place looked : ℕ) → answer ≡ searched.Spent place looked → Reported answer before 0 (3 ∷ place ∷ 0 ∷ looked ∷ [])
-  search-spent place looked e =
-      by-kind (searched.Spent place looked) 0 (3 ∷ place ∷ 0 ∷ looked ∷ []) e (record { coded = refl; filled = filled-accepted (3 ∷ place ∷ 0 ∷ looked ∷ []) before })
+  pub search-accepted : (kind : Searched) → searchedNumber kind ≡ 0 → answer ≡ kind → Reported answer before 0 (searchReport kind)
+  search-accepted kind z e =
+      by-kind kind 0 (searchReport kind) e
+      (record { coded = sym z; lent = lent-accepted (searchedNumber kind) (searchReport kind) before (searchReport kind) z refl })
 
   pub search-refused : (p : Parameter) (n : ℕ) → answer ≡ searched.Refused p → n ≡ parameterNumber p → Reported answer before n before
   search-refused p n e c =
-      by-kind (searched.Refused p) n before e (record { coded = c; filled = filled-refused (parameterNumber p) [] before (parameter-nonzero p) })
+      by-kind (searched.Refused p) n before e (record { coded = c; lent = lent-refused (parameterNumber p) [] before (parameter-nonzero p) })
 
 -- ---- the report of decode and receive
 

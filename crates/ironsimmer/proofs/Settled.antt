@@ -4,67 +4,80 @@ use mathlib.Core.List.{List, [], _∷_, _++_}
 use Prim.Native.Nat.{ℕ}
 use native.Mathlib.Decide.{ℕ-discrete}
 use Rattle.refusals.specs.Numbers.{verdictNumber}
-use Rattle.reed_solomon.specs.Outcome.{decodedNumber, decodedValue}
+use Rattle.refusals.specs.declared.Verdict.{Verdict}
+use Rattle.reed_solomon.specs.Outcome.{EncodeOutcome, DecodeOutcome, decodedNumber, decodedValue}
 use Rattle.reed_solomon.proofs.Settled.{encode-settled}
 use Rattle.reed_solomon.proofs.DecodeSettled.{decode-settled}
-use Rattle.randomiser.specs.Outcome.{NextOutcome}
+use Rattle.randomiser.specs.Outcome.{NextOutcome, RandomiseOutcome}
 use Rattle.randomiser.proofs.Settled.{next-bits-settled, randomise-settled}
 use Rattle.marker.specs.Numbers.{testedNumber, testedValue, searchedNumber}
 use Rattle.marker.proofs.Settled.{test-settled, search-settled}
 use Rattle.convolution.specs.Outcome.{convolvedNumber, convolvedCount}
 use Rattle.convolution.proofs.Settled.{convolve-settled}
-use Rattle.chain.specs.Outcome.{receivedNumber, receivedValue}
+use Rattle.chain.specs.Outcome.{TransmitOutcome, ReceiveOutcome, receivedNumber, receivedValue}
 use Rattle.chain.proofs.Settled.{transmit-settled, receive-settled}
-use Rattle.ironsimmer.specs.Calls.{code, flag, Filled, Told, searchReport, EncodeCall, DecodeCall, RandomiseCall, MarkerCall, SearchCall, ConvolveCall, TransmitCall, ReceiveCall}
+use Rattle.ironsimmer.specs.Calls.{code, flag, Lent, searchReport, VerdictCall, EncodeCall, RandomiseCall, TransmitCall, DecodingCall, DecodeCall, ReceiveCall, MarkerCall, SearchCall, ConvolveCall}
 
--- ---- what was lent for the report
+-- ---- one law for each kind of call
 
-filled-once : (number : ℕ) (report before a b : List ℕ) → Filled number report before a → Filled number report before b → a ≡ b
-filled-once number report before a b p q =
+lent-once : {A : Type 0} (number : ℕ) (report before a b : A) → Lent number report before a → Lent number report before b → a ≡ b
+lent-once number report before a b p q =
     elim (ℕ-discrete number 0) [
       | yes z ↦ p .accepted z ∙ sym (q .accepted z)
       | no z ↦ p .refused z ∙ sym (q .refused z)
     ]
 
-filled-settled : (m n : ℕ) (r t before a b : List ℕ) → m ≡ n → r ≡ t → Filled m r before a → Filled n t before b → a ≡ b
-filled-settled m n r t before a b e f p q =
-    filled-once n t before a b (subst (λ (k : ℕ). Filled k t before a) e (subst (λ (l : List ℕ). Filled m l before a) f p)) q
+lent-settled : {A : Type 0} (m n : ℕ) (r t before a b : A) → m ≡ n → r ≡ t → Lent m r before a → Lent n t before b → a ≡ b
+lent-settled {A} m n r t before a b e f p q =
+    lent-once n t before a b (subst (λ (k : ℕ). Lent k t before a) e (subst (λ (l : A). Lent m l before a) f p)) q
 
-told-once : (number report before a b : ℕ) → Told number report before a → Told number report before b → a ≡ b
-told-once number report before a b p q =
-    elim (ℕ-discrete number 0) [
-      | yes z ↦ p .accepted z ∙ sym (q .accepted z)
-      | no z ↦ p .refused z ∙ sym (q .refused z)
-    ]
+verdict-call-settled : (Permits : Verdict → List ℕ → Type 0) → ((v w : Verdict) (a b : List ℕ) → Permits v a → Permits w b → (v ≡ w) × (a ≡ b)) → (m n : ℕ) (a b : List ℕ)
+    → VerdictCall Permits m a → VerdictCall Permits n b → (m ≡ n) × (a ≡ b)
+verdict-call-settled Permits settled m n a b x y =
+    let same = settled (x .verdict) (y .verdict) a b (x .outcome) (y .outcome) in (x .coded ∙ ap verdictNumber (same .0) ∙ sym (y .coded), same .1)
 
-told-settled : (m n r t before a b : ℕ) → m ≡ n → r ≡ t → Told m r before a → Told n t before b → a ≡ b
-told-settled m n r t before a b e f p q = told-once n t before a b (subst (λ (k : ℕ). Told k t before a) e (subst (λ (l : ℕ). Told m l before a) f p)) q
+decoding-call-settled : {Answer : Type 0} (numberOf valueOf : Answer → ℕ) (Permits : Answer → List ℕ → ℕ → List ℕ → Type 0)
+    → ((v w : Answer) (c d : List ℕ) (j k : ℕ) (a b : List ℕ) → Permits v c j a → Permits w d k b → (v ≡ w) × (c ≡ d) × (j ≡ k) × (a ≡ b))
+    → (before : List ℕ) (m n : ℕ) (a b r t : List ℕ) → DecodingCall numberOf valueOf Permits before m a r → DecodingCall numberOf valueOf Permits before n b t
+    → (m ≡ n) × (a ≡ b) × (r ≡ t)
+decoding-call-settled numberOf valueOf Permits settled before m n a b r t x y =
+    let same = settled (x .answered) (y .answered) (x .counts) (y .counts) (x .total) (y .total) a b (x .outcome) (y .outcome) in (
+      x .coded ∙ ap₂ code (ap numberOf (same .0)) (ap valueOf (same .0)) ∙ sym (y .coded),
+      same .3,
+      lent-settled _ _ _ _ before r t (ap numberOf (same .0)) (ap₂ (λ (counts : List ℕ) (total : ℕ). counts ++ (total ∷ [])) (same .1) (same .2)) (x .lent) (y .lent),
+    )
 
 -- ---- the calls
 
 module _ (m n : ℕ) (a b : List ℕ) where
   pub ironsimmer-encode-settled : (e i q : ℕ) (frame before : List ℕ) → EncodeCall e i q frame before m a → EncodeCall e i q frame before n b → (m ≡ n) × (a ≡ b)
-  ironsimmer-encode-settled e i q frame before x y =
-      let same = encode-settled e i q frame before (x .verdict) (y .verdict) a b (x .outcome) (y .outcome) in
-      (x .coded ∙ ap verdictNumber (same .0) ∙ sym (y .coded), same .1)
+  ironsimmer-encode-settled e i q frame before = verdict-call-settled (EncodeOutcome e i q frame before) (encode-settled e i q frame before) m n a b
 
   pub ironsimmer-randomise-settled : (before : List ℕ) → RandomiseCall before m a → RandomiseCall before n b → (m ≡ n) × (a ≡ b)
-  ironsimmer-randomise-settled before x y =
-      let same = randomise-settled before a b (x .verdict) (y .verdict) (x .outcome) (y .outcome) in
-      (x .coded ∙ ap verdictNumber (same .0) ∙ sym (y .coded), same .1)
+  ironsimmer-randomise-settled before = verdict-call-settled (RandomiseOutcome before) (λ v w c d. randomise-settled before c d v w) m n a b
 
   pub ironsimmer-transmit-settled : (e i q randomised : ℕ) (frame before : List ℕ) → TransmitCall e i q randomised frame before m a
       → TransmitCall e i q randomised frame before n b → (m ≡ n) × (a ≡ b)
-  ironsimmer-transmit-settled e i q randomised frame before x y =
-      let same = transmit-settled e i q (flag randomised) frame before (x .verdict) (y .verdict) a b (x .outcome) (y .outcome) in
-      (x .coded ∙ ap verdictNumber (same .0) ∙ sym (y .coded), same .1)
+  ironsimmer-transmit-settled e i q randomised frame before =
+      verdict-call-settled (TransmitOutcome e i q (flag randomised) frame before) (transmit-settled e i q (flag randomised) frame before) m n a b
+
+  pub ironsimmer-decode-settled : (e i q s : ℕ) (block before reported r t : List ℕ) → DecodeCall e i q s block before reported m a r
+      → DecodeCall e i q s block before reported n b t → (m ≡ n) × (a ≡ b) × (r ≡ t)
+  ironsimmer-decode-settled e i q s block before reported =
+      decoding-call-settled decodedNumber decodedValue (DecodeOutcome e i q s block before) (decode-settled e i q s block before) reported m n a b
+
+  pub ironsimmer-receive-settled : (e i q s t randomised : ℕ) (marked before reported r u : List ℕ) → ReceiveCall e i q s t randomised marked before reported m a r
+      → ReceiveCall e i q s t randomised marked before reported n b u → (m ≡ n) × (a ≡ b) × (r ≡ u)
+  ironsimmer-receive-settled e i q s t randomised marked before reported =
+      decoding-call-settled receivedNumber receivedValue (ReceiveOutcome e i q s t (flag randomised) marked before)
+      (receive-settled e i q s t (flag randomised) marked before) reported m n a b
 
   pub ironsimmer-search-settled : (tolerance : ℕ) (stream : List ℕ) (start budget : ℕ) (before : List ℕ) → SearchCall tolerance stream start budget before m a
       → SearchCall tolerance stream start budget before n b → (m ≡ n) × (a ≡ b)
   ironsimmer-search-settled tolerance stream start budget before x y =
       let same = search-settled tolerance stream start (x .searched) (y .searched) (x .outcome) (y .outcome) in (
         x .reported .coded ∙ ap searchedNumber same ∙ sym (y .reported .coded),
-        filled-settled _ _ _ _ before a b (ap searchedNumber same) (ap searchReport same) (x .reported .filled) (y .reported .filled),
+        lent-settled _ _ _ _ before a b (ap searchedNumber same) (ap searchReport same) (x .reported .lent) (y .reported .lent),
       )
 
   pub ironsimmer-convolve-settled : (rate : ℕ) (octets before : List ℕ) (counted c d : ℕ) → ConvolveCall rate octets before counted m a c
@@ -73,25 +86,7 @@ module _ (m n : ℕ) (a b : List ℕ) where
       let same = convolve-settled rate octets before a b (x .convolved) (y .convolved) (x .outcome) (y .outcome) in (
         x .coded ∙ ap convolvedNumber (same .0) ∙ sym (y .coded),
         same .1,
-        told-settled _ _ _ _ counted c d (ap convolvedNumber (same .0)) (ap convolvedCount (same .0)) (x .told) (y .told),
-      )
-
-  pub ironsimmer-decode-settled : (e i q s : ℕ) (block before reported r t : List ℕ) → DecodeCall e i q s block before reported m a r
-      → DecodeCall e i q s block before reported n b t → (m ≡ n) × (a ≡ b) × (r ≡ t)
-  ironsimmer-decode-settled e i q s block before reported r t x y =
-      let same = decode-settled e i q s block before (x .decoded) (y .decoded) (x .counts) (y .counts) (x .total) (y .total) a b (x .outcome) (y .outcome) in (
-        x .coded ∙ ap₂ code (ap decodedNumber (same .0)) (ap decodedValue (same .0)) ∙ sym (y .coded),
-        same .3,
-        filled-settled _ _ _ _ reported r t (ap decodedNumber (same .0)) (ap₂ (λ (counts : List ℕ) (total : ℕ). counts ++ (total ∷ [])) (same .1) (same .2)) (x .filled) (y .filled),
-      )
-
-  pub ironsimmer-receive-settled : (e i q s t randomised : ℕ) (marked before reported r u : List ℕ) → ReceiveCall e i q s t randomised marked before reported m a r
-      → ReceiveCall e i q s t randomised marked before reported n b u → (m ≡ n) × (a ≡ b) × (r ≡ u)
-  ironsimmer-receive-settled e i q s t randomised marked before reported r u x y =
-      let same = receive-settled e i q s t (flag randomised) marked before (x .received) (y .received) (x .counts) (y .counts) (x .total) (y .total) a b (x .outcome) (y .outcome) in (
-        x .coded ∙ ap₂ code (ap receivedNumber (same .0)) (ap receivedValue (same .0)) ∙ sym (y .coded),
-        same .3,
-        filled-settled _ _ _ _ reported r u (ap receivedNumber (same .0)) (ap₂ (λ (counts : List ℕ) (total : ℕ). counts ++ (total ∷ [])) (same .1) (same .2)) (x .filled) (y .filled),
+        lent-settled _ _ _ _ counted c d (ap convolvedNumber (same .0)) (ap convolvedCount (same .0)) (x .lent) (y .lent),
       )
 
 pub ironsimmer-sequence-settled : (before o a p b : ℕ) → NextOutcome before o a → NextOutcome before p b → (o ≡ p) × (a ≡ b)
@@ -105,5 +100,5 @@ ironsimmer-marker-settled tolerance octets before m a n b x y =
         | yes z ↦ x .accepted z ∙ sym (y .accepted (ap testedNumber (sym same) ∙ z))
         | no z ↦ x .coded z ∙ ap₂ code (ap testedNumber same) (ap testedValue same) ∙ sym (y .coded (λ w. z (ap testedNumber same ∙ w)))
       ],
-      told-settled _ _ _ _ before a b (ap testedNumber same) (ap testedValue same) (x .told) (y .told),
+      lent-settled _ _ _ _ before a b (ap testedNumber same) (ap testedValue same) (x .lent) (y .lent),
     )

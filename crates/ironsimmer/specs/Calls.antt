@@ -7,7 +7,6 @@ use Prim.Native.Nat.{ℕ, _+_, _*_}
 use lib.Dec.{eqb}
 use Rattle.refusals.specs.Numbers.{parameterNumber, verdictNumber, markerNumber, markerValue, wordNumber, wordValue}
 use Rattle.refusals.specs.declared.Verdict.{Verdict}
-use Rattle.reed_solomon.specs.declared.Decoded.{Decoded}
 use Rattle.reed_solomon.specs.Outcome.{EncodeOutcome, DecodeOutcome, decodedNumber, decodedValue}
 use Rattle.randomiser.specs.Outcome.{RandomiseOutcome}
 use Rattle.marker.specs.declared.Tested.{Tested}
@@ -19,7 +18,6 @@ use Rattle.convolution.specs.declared.Convolved.{Convolved}
 use Rattle.convolution.specs.Outcome.{ConvolveOutcome, convolvedNumber, convolvedCount}
 use Rattle.chain.specs.declared.Stage.{Stage}
 use Rattle.chain.specs.declared.Stage.the-variants as stage
-use Rattle.chain.specs.declared.Received.{Received}
 use Rattle.chain.specs.Outcome.{TransmitOutcome, ReceiveOutcome, receivedNumber, receivedValue}
 
 -- An answer in one number: the refusal's number, 0 if accepted, in the lowest eight bits, and the refusal's value above them.
@@ -32,40 +30,47 @@ stageCode (stage.Parameters p) = parameterNumber p
 stageCode (stage.Marker r) = code (markerNumber r) (markerValue r)
 stageCode (stage.Word r) = code (wordNumber r) (wordValue r)
 
--- A flag is 0 or anything else.
+-- A flag: 0 is no, any other number is yes.
 abbrev pub flag : ℕ → Bool
 flag n = not (eqb n 0)
 
 -- What C lends for a report is as it was if the call was refused, by its number, and holds the report if it was accepted.
-pub record Filled (number : ℕ) (report before after : List ℕ) : Type 0 where
+pub record Lent {A : Type 0} (number : ℕ) (report before after : A) : Type 0 where
   pub refused : number ≢ 0 → after ≡ before
   pub accepted : number ≡ 0 → after ≡ report
 
--- So for one number.
-pub record Told (number report before after : ℕ) : Type 0 where
-  pub refused : number ≢ 0 → after ≡ before
-  pub accepted : number ≡ 0 → after ≡ report
-
--- Encode: the number of the verdict that its outcome permits.
-pub record EncodeCall (e i q : ℕ) (frame before : List ℕ) (answer : ℕ) (after : List ℕ) : Type 0 where
+-- A call whose answer is a verdict: its number, of a verdict and a buffer that the outcome permits.
+pub record VerdictCall (Permits : Verdict → List ℕ → Type 0) (answer : ℕ) (after : List ℕ) : Type 0 where
   pub verdict : Verdict
-  pub outcome : EncodeOutcome e i q frame before verdict after
+  pub outcome : Permits verdict after
   pub coded : answer ≡ verdictNumber verdict
 
--- Decode: its answer's number and value; the report is the counts of eight words, then the total.
-pub record DecodeCall (e i q s : ℕ) (block before reported : List ℕ) (answer : ℕ) (after report : List ℕ) : Type 0 where
-  pub decoded : Decoded
+abbrev pub EncodeCall : ℕ → ℕ → ℕ → List ℕ → List ℕ → ℕ → List ℕ → Type 0
+EncodeCall e i q frame before answer after = VerdictCall (EncodeOutcome e i q frame before) answer after
+
+abbrev pub RandomiseCall : List ℕ → ℕ → List ℕ → Type 0
+RandomiseCall before answer after = VerdictCall (RandomiseOutcome before) answer after
+
+abbrev pub TransmitCall : ℕ → ℕ → ℕ → ℕ → List ℕ → List ℕ → ℕ → List ℕ → Type 0
+TransmitCall e i q randomised frame before answer after = VerdictCall (TransmitOutcome e i q (flag randomised) frame before) answer after
+
+-- A call that decodes: number and value of an answer that the outcome permits; the report is the counts of eight words, then the total.
+pub record DecodingCall {Answer : Type 0} (numberOf valueOf : Answer → ℕ) (Permits : Answer → List ℕ → ℕ → List ℕ → Type 0) (before : List ℕ) (answer : ℕ)
+    (after report : List ℕ) : Type 0 where
+  pub answered : Answer
   pub counts : List ℕ
   pub total : ℕ
-  pub outcome : DecodeOutcome e i q s block before decoded counts total after
-  pub coded : answer ≡ code (decodedNumber decoded) (decodedValue decoded)
-  pub filled : Filled (decodedNumber decoded) (counts ++ (total ∷ [])) reported report
+  pub outcome : Permits answered counts total after
+  pub coded : answer ≡ code (numberOf answered) (valueOf answered)
+  pub lent : Lent (numberOf answered) (counts ++ (total ∷ [])) before report
 
--- Randomise: the number of its verdict.
-pub record RandomiseCall (before : List ℕ) (answer : ℕ) (after : List ℕ) : Type 0 where
-  pub verdict : Verdict
-  pub outcome : RandomiseOutcome before verdict after
-  pub coded : answer ≡ verdictNumber verdict
+abbrev pub DecodeCall : ℕ → ℕ → ℕ → ℕ → List ℕ → List ℕ → List ℕ → ℕ → List ℕ → List ℕ → Type 0
+DecodeCall e i q s block before reported answer after report =
+    DecodingCall decodedNumber decodedValue (DecodeOutcome e i q s block before) reported answer after report
+
+abbrev pub ReceiveCall : ℕ → ℕ → ℕ → ℕ → ℕ → ℕ → List ℕ → List ℕ → List ℕ → ℕ → List ℕ → List ℕ → Type 0
+ReceiveCall e i q s t randomised marked before reported answer after report =
+    DecodingCall receivedNumber receivedValue (ReceiveOutcome e i q s t (flag randomised) marked before) reported answer after report
 
 -- The marker test: if accepted it sets the wrong bits; if refused by 9 it has them as the refusal's value.
 pub record MarkerCall (tolerance : ℕ) (octets : List ℕ) (before answer after : ℕ) : Type 0 where
@@ -73,7 +78,7 @@ pub record MarkerCall (tolerance : ℕ) (octets : List ℕ) (before answer after
   pub outcome : TestOutcome tolerance octets tested
   pub coded : testedNumber tested ≢ 0 → answer ≡ code (testedNumber tested) (testedValue tested)
   pub accepted : testedNumber tested ≡ 0 → answer ≡ 0
-  pub told : Told (testedNumber tested) (testedValue tested) before after
+  pub lent : Lent (testedNumber tested) (testedValue tested) before after
 
 -- What an accepted search reports: 1 found, 2 absent, 3 spent; the place, 0 if absent; the wrong bits, 0 unless found; the places looked at.
 abbrev pub searchReport : Searched → List ℕ
@@ -85,7 +90,7 @@ searchReport (Refused p) = []
 -- A search that was answered so: its number, and its report if it was accepted.
 pub record Reported (searched : Searched) (before : List ℕ) (answer : ℕ) (after : List ℕ) : Type 0 where
   pub coded : answer ≡ searchedNumber searched
-  pub filled : Filled (searchedNumber searched) (searchReport searched) before after
+  pub lent : Lent (searchedNumber searched) (searchReport searched) before after
 
 -- The search: as the answer that its outcome permits is reported.
 pub record SearchCall (tolerance : ℕ) (stream : List ℕ) (start budget : ℕ) (before : List ℕ) (answer : ℕ) (after : List ℕ) : Type 0 where
@@ -98,19 +103,4 @@ pub record ConvolveCall (rate : ℕ) (octets before : List ℕ) (counted answer 
   pub convolved : Convolved
   pub outcome : ConvolveOutcome rate octets before convolved after
   pub coded : answer ≡ convolvedNumber convolved
-  pub told : Told (convolvedNumber convolved) (convolvedCount convolved) counted count
-
--- Transmit: the number of its verdict.
-pub record TransmitCall (e i q randomised : ℕ) (frame before : List ℕ) (answer : ℕ) (after : List ℕ) : Type 0 where
-  pub verdict : Verdict
-  pub outcome : TransmitOutcome e i q (flag randomised) frame before verdict after
-  pub coded : answer ≡ verdictNumber verdict
-
--- Receive: the number and value of its answer, and the report as decode has it.
-pub record ReceiveCall (e i q s t randomised : ℕ) (marked before reported : List ℕ) (answer : ℕ) (after report : List ℕ) : Type 0 where
-  pub received : Received
-  pub counts : List ℕ
-  pub total : ℕ
-  pub outcome : ReceiveOutcome e i q s t (flag randomised) marked before received counts total after
-  pub coded : answer ≡ code (receivedNumber received) (receivedValue received)
-  pub filled : Filled (receivedNumber received) (counts ++ (total ∷ [])) reported report
+  pub lent : Lent (convolvedNumber convolved) (convolvedCount convolved) counted count

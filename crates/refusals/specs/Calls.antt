@@ -42,7 +42,7 @@ word uncorrectable = (10, uncorrectable)
 abbrev pub start : ℕ → ℕ → Check
 start from stream = (11, 8 * stream < from)
 
--- The orders. A length is called by what it is the length of; `wrong` is the wrong bits of the four marker octets, and
+-- The orders, after two beginnings that several of them share. A length is called by what it is the length of; `wrong` is the wrong bits of the four marker octets, and
 -- `uncorrectable` says that some word has no codeword with an all-zero fill within the allowance.
 abbrev pub wordParameters : ℕ → ℕ → ℕ → List Check
 wordParameters e i q = strength e ∷ depth i ∷ fill e q ∷ []

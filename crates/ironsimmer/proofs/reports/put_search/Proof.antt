@@ -1,5 +1,7 @@
 -- `put_search`: in each arm the answer is of that kind, and the report is that of its kind.
-use Rattle.ironsimmer.proofs.Answers.{search-found, search-absent, search-spent, search-refused}
+use mathlib.Core.Path.{refl}
+use Rattle.marker.specs.declared.Searched.the-variants.{Found, Absent, Spent}
+use Rattle.ironsimmer.proofs.Answers.{search-accepted, search-refused}
 use borrow.Author.Needs.{needs}
 use Rattle.ironsimmer.proofs.reports.put_search.Statement.{statement}
 use Rattle.ironsimmer.proofs.reports.put_search.Tie as tie
@@ -23,13 +25,13 @@ parameter-number-requires : tie.Need-parameter-number-requires
 parameter-number-requires c κs = search needs
 
 returns : tie.Need-returns
-returns c = search-found _ _ _ _ (c .before .before .answer .given .1)
+returns c = search-accepted _ (Found _ _ _) refl (c .before .before .answer .given .1)
 
 returns-2 : tie.Need-returns-2
-returns-2 c = search-absent _ _ (c .before .before .answer2 .given .1)
+returns-2 c = search-accepted _ (Absent _) refl (c .before .before .answer2 .given .1)
 
 returns-3 : tie.Need-returns-3
-returns-3 c = search-spent _ _ _ (c .before .before .answer3 .given .1)
+returns-3 c = search-accepted _ (Spent _ _) refl (c .before .before .answer3 .given .1)
 
 returns-4 : tie.Need-returns-4
 returns-4 c = search-refused _ _ _ (c .before .before .answer4 .given .1) (c .parameter-number .ensures)
