@@ -136,7 +136,6 @@ module _ (e i q s t : ℕ) (flag : Bool) (marked frame : List ℕ) where
         record {
           number = stopped _ (receiveParameters e i q s t (length marked) (length frame)) v p is first;
           stage = refuses;
-          size = (refl, refl);
           refused = λ n. (refl, refl, refl);
           past = λ pass fits. absurd (parameter-nonzero p (first-unique (receiveParameters e i q s t (length marked) (length frame)) (parameterNumber p) 0 refuses pass));
         }
@@ -207,7 +206,6 @@ module _ (e i q s t : ℕ) (flag : Bool) (marked frame : List ℕ) where
             number = first-passes (receiveParameters e i q s t (length marked) (length frame)) (markerNumber r) (receive-numbers e i q s t (length marked) (length frame)) f
                 (inl (found .1, ap markerNumber (found .0)));
             stage = found .0;
-            size = (refl, refl);
             refused = λ n. (refl, refl, refl);
             past = λ pass fits. absurd (omega (arith, found .1));
           }
@@ -241,7 +239,6 @@ module _ (e i q s t : ℕ) (flag : Bool) (marked frame : List ℕ) where
                 (first-passes (receiveParameters e i q s t (length marked) (length frame)) (decodedNumber (D .answered)) (receive-numbers e i q s t (length marked) (length frame)) f
                 (inr ((λ over. omega (arith, marker-fits a wrong T is)), decide)));
             stage = word-refuses (D .answered) decide;
-            size = D .outcome .size;
             refused = λ n. D .outcome .refused (λ z. n (stage-number (D .answered) ∙ z));
             past = λ pass fits. record { answered = D .answered; same = refl; outcome = D .outcome };
           })

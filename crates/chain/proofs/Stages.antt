@@ -5,6 +5,7 @@ use mathlib.Core.Logic.{_≢_, _⊎_, inl, inr}
 use mathlib.Core.List.{List, [], _∷_}
 use Prim.Native.Nat.{ℕ, _≤_, _<_}
 use native.Mathlib.Omega.{arith}
+use native.Mathlib.Decide.{ℕ-discrete}
 use lib.ListN.{length}
 use Rattle.refusals.specs.Order.{Check, FirstOf, OneOf}
 use Rattle.refusals.specs.Numbers.{parameterNumber, markerNumber, markerValue, wordNumber, wordValue}
@@ -77,6 +78,14 @@ module _ (e i q s t : ℕ) (flag : Bool) (marked before : List ℕ) where
     pub decoded-past : (receivedNumber answer ≡ 0) ⊎ (receivedNumber answer ≡ 10) → AsDecode e i q s (opened flag marked) before answer counts total frame
     decoded-past (inl z) = let p : Passed (receivedNumber answer) (R .number) = after (receivedNumber answer) (R .number) (inl (omega arith)) in R .past (p .0) (p .1)
     decoded-past (inr z) = let p : Passed (receivedNumber answer) (R .number) = after (receivedNumber answer) (R .number) (inr z) in R .past (p .0) (p .1)
+
+    -- The frame keeps its length, and there are eight counts.
+    pub receive-sizes : (length frame ≡ length before) × (length counts ≡ 8)
+    receive-sizes =
+        elim (ℕ-discrete (receivedNumber answer) 0) [
+          | yes z ↦ decoded-past (inl z) .outcome .size
+          | no n ↦ (ap length (R .refused n .0), ap length (R .refused n .1))
+        ]
 
   same-refusal : (r : WordRefusal) (d : Decoded) → Refused (Word r) ≡ wordStage d → d ≡ decoded.Refused r
   same-refusal r decoded.Delivered is = let z : _≡_ {A = ℕ} 0 1 = cc in absurd (omega arith)

@@ -79,7 +79,6 @@ pub record ReceiveOutcome (e i q s t : ℕ) (flag : Bool) (marked before : List 
   pub number : FirstOf (receiveOrder e i q s t (length marked) (length before) (wrongBits marked 0) ((w : ℕ) × (w < i) × Lost e i q s (opened flag marked) w))
       (receivedNumber answer)
   pub stage : StageRefuses e i q s t marked before answer
-  pub size : (length after ≡ length before) × (length counts ≡ 8)
   pub refused : receivedNumber answer ≢ 0 → (after ≡ before) × (counts ≡ replicate 8 0) × (total ≡ 0)
   pub past : FirstOf (receiveParameters e i q s t (length marked) (length before)) 0 → wrongBits marked 0 ≤ t
       → AsDecode e i q s (opened flag marked) before answer counts total after

@@ -29,7 +29,7 @@ use Rattle.chain.specs.declared.Stage.the-variants as stage
 use Rattle.chain.specs.declared.Received.{Received}
 use Rattle.chain.specs.declared.Received.the-variants as received
 use Rattle.chain.specs.Outcome.{ReceiveOutcome, receivedNumber, receivedValue}
-use Rattle.ironsimmer.specs.Calls.{code, stageCode, flag, searchReport, Lent, DecodingCall, DecodeCall, MarkerCall, Reported, ConvolveCall, ReceiveCall}
+use Rattle.ironsimmer.specs.Exported.{code, flag, searchReport, Lent, DecodingCall, DecodeCall, MarkerCall, Reported, ConvolveCall, ReceiveCall}
 
 -- ---- one number for an answer
 
@@ -42,6 +42,9 @@ markerCode r = code (markerNumber r) (markerValue r)
 
 abbrev pub wordCode : WordRefusal → ℕ
 wordCode r = code (wordNumber r) (wordValue r)
+
+abbrev pub stageCode : Stage → ℕ
+stageCode s = code (receivedNumber (received.Refused s)) (receivedValue (received.Refused s))
 
 -- Every refusal has a number.
 pub marker-nonzero : (r : MarkerRefusal) → markerNumber r ≢ 0
@@ -56,11 +59,6 @@ pub stage-nonzero : (s : Stage) → receivedNumber (received.Refused s) ≢ 0
 stage-nonzero (stage.Parameters p) = parameter-nonzero p
 stage-nonzero (stage.Marker r) = marker-nonzero r
 stage-nonzero (stage.Word r) = word-nonzero r
-
-pub stage-code : (s : Stage) → stageCode s ≡ code (receivedNumber (received.Refused s)) (receivedValue (received.Refused s))
-stage-code (stage.Parameters p) = omega arith
-stage-code (stage.Marker r) = refl
-stage-code (stage.Word r) = refl
 
 -- ---- what was lent for the report
 
@@ -165,7 +163,7 @@ module _ (e i q s t randomised : ℕ) (marked before reported counts : List ℕ)
       → n ≡ stageCode stage → ReceiveCall e i q s t randomised marked before reported n after reported
   receive-refused stage n known o c =
       decoding-refused receivedNumber receivedValue (ReceiveOutcome e i q s t (flag randomised) marked before) reported counts total after answer o n
-      (λ z. stage-nonzero stage (ap receivedNumber (sym known) ∙ z)) (known-answer (λ (a : Received). code (receivedNumber a) (receivedValue a)) known (c ∙ stage-code stage))
+      (λ z. stage-nonzero stage (ap receivedNumber (sym known) ∙ z)) (known-answer (λ (a : Received). code (receivedNumber a) (receivedValue a)) known c)
 
 -- ---- the search's report
 

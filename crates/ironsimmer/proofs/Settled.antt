@@ -16,7 +16,7 @@ use Rattle.convolution.specs.Outcome.{convolvedNumber, convolvedCount}
 use Rattle.convolution.proofs.Settled.{convolve-settled}
 use Rattle.chain.specs.Outcome.{TransmitOutcome, ReceiveOutcome, receivedNumber, receivedValue}
 use Rattle.chain.proofs.Settled.{transmit-settled, receive-settled}
-use Rattle.ironsimmer.specs.Calls.{code, flag, Lent, searchReport, VerdictCall, EncodeCall, RandomiseCall, TransmitCall, DecodingCall, DecodeCall, ReceiveCall, MarkerCall, SearchCall, ConvolveCall}
+use Rattle.ironsimmer.specs.Exported.{code, flag, Lent, searchReport, VerdictCall, EncodeCall, RandomiseCall, TransmitCall, DecodingCall, DecodeCall, ReceiveCall, MarkerCall, SearchCall, ConvolveCall}
 
 -- ---- one law for each kind of call
 

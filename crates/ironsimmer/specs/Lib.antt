@@ -1,2 +1,2 @@
 -- What the exported calls answer.
-pub mod Calls
+pub mod Exported

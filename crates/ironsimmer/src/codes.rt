@@ -1,7 +1,9 @@
 // Refusals as one number: the refusal's number, and 256 times its value.
 ghost use mathlib.Core.Path.{_≡_};
 ghost use Rattle.refusals.specs.Numbers.{markerNumber, markerValue, wordNumber, wordValue};
-ghost use Rattle.ironsimmer.specs.Calls.{code, stageCode};
+ghost use Rattle.chain.specs.declared.Received.the-variants as received;
+ghost use Rattle.chain.specs.Outcome.{receivedNumber, receivedValue};
+ghost use Rattle.ironsimmer.specs.Exported.{code};
 use chain::Stage;
 use refusals::MarkerRefusal;
 use refusals::WordRefusal;
@@ -25,7 +27,7 @@ pub(crate) fn word_code(refusal: WordRefusal) -> u64
 }
 
 pub(crate) fn stage_code(stage: Stage) -> u64
-    ensures { λ r. ⌜ r ≡ stageCode stage ⌝ }
+    ensures { λ r. ⌜ r ≡ code (receivedNumber (received.Refused stage)) (receivedValue (received.Refused stage)) ⌝ }
 {
     match stage {
         Stage::Parameters(p) => refusals::parameter_number(p),

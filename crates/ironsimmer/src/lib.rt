@@ -4,7 +4,7 @@ mod codes;
 mod reports;
 
 ghost use Rattle.randomiser.specs.Outcome.{NextOutcome};
-ghost use Rattle.ironsimmer.specs.Calls.{EncodeCall, DecodeCall, RandomiseCall, MarkerCall, SearchCall, ConvolveCall, TransmitCall, ReceiveCall};
+ghost use Rattle.ironsimmer.specs.Exported.{EncodeCall, DecodeCall, RandomiseCall, MarkerCall, SearchCall, ConvolveCall, TransmitCall, ReceiveCall};
 use chain::Received;
 use convolution::Convolved;
 use marker::Tested;

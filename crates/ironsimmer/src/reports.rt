@@ -2,7 +2,7 @@
 ghost use mathlib.Core.Path.{_≡_};
 ghost use mathlib.Core.List.{[], _∷_, _++_};
 ghost use lib.ListN.{length};
-ghost use Rattle.ironsimmer.specs.Calls.{Reported};
+ghost use Rattle.ironsimmer.specs.Exported.{Reported};
 use marker::Searched;
 
 // The counts of eight words, then the total.

@@ -1,4 +1,5 @@
 -- `ironsimmer_receive`: delivered with the report in place, or refused with it as it was.
+use Rattle.chain.proofs.Stages.{receive-sizes}
 use Rattle.ironsimmer.proofs.Answers.{receive-delivered, receive-refused}
 use borrow.Author.Needs.{needs}
 use Rattle.ironsimmer.proofs.ironsimmer_receive.Statement.{statement}
@@ -17,13 +18,13 @@ same-length : tie.Need-same-length
 same-length c = search needs
 
 returns : tie.Need-returns
-returns c = receive-refused _ _ _ _ _ (c .before .before .before .before .before .before .before .before .before .before .args .randomised) _ _ _ _ _ _ _ _ (c .before .before .answer .given .1) (c .before .before .before .before .before .before .receive .ensures) (c .stage-code .ensures)
+returns c = receive-refused _ _ _ _ _ _ _ _ _ _ _ _ _ _ (c .before .before .answer .given .1) (c .before .before .before .before .before .before .receive .ensures) (c .stage-code .ensures)
 
 enum-told : tie.Need-enum-told
 enum-told c = search needs
 
 report-of-requires : tie.Need-report-of-requires
-report-of-requires c κs = search needs
+report-of-requires c κs = receive-sizes _ _ _ _ _ _ _ _ _ _ _ _ (c .before .before .before .before .before .receive .ensures) .1
 
 same-length-2 : tie.Need-same-length-2
 same-length-2 c = search needs

@@ -17,9 +17,8 @@ refused-requires c κs = search needs
 
 returns : tie.Need-returns
 returns c =
-    let a = c .before .before .before .before .before .before .before .args in
-    same-reception (a .e) (a .depth) (a .fill) (a .s) (a .tolerance) (a .randomised) (a .marked .now) (a .frame .now) _ _ _ _ _ _ _ (c .refused .ensures .0) (c .refused .ensures .2) (c .refused .ensures .1)
-    (stopped-at-parameters (a .e) (a .depth) (a .fill) (a .s) (a .tolerance) (a .randomised) (a .marked .now) (a .frame .now) (c .before .before .before .before .receive-parameters .result) (c .before .before .before .before .receive-parameters .ensures) _ (c .before .before .verdict .given .1))
+    same-reception _ _ _ _ _ _ _ _ _ _ _ _ _ _ _ (c .refused .ensures .0) (c .refused .ensures .2) (c .refused .ensures .1)
+    (stopped-at-parameters _ _ _ _ _ _ _ _ (c .before .before .before .before .receive-parameters .result) (c .before .before .before .before .receive-parameters .ensures) _ (c .before .before .verdict .given .1))
 
 enum-told : tie.Need-enum-told
 enum-told c = search needs

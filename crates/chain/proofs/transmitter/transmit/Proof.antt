@@ -14,9 +14,7 @@ enum-known-verdict : tie.Need-enum-known-verdict
 enum-known-verdict c = search needs
 
 returns : tie.Need-returns
-returns c =
-    let a = c .before .before .before .before .before .before .args in
-    transmit-refuses (a .e) (a .depth) (a .fill) (a .randomised) (a .frame .now) (a .marked .now) (c .before .before .before .transmit-parameters .result) (c .before .before .before .transmit-parameters .ensures) _ (c .before .verdict .given .1)
+returns c = transmit-refuses _ _ _ _ _ _ (c .before .before .before .transmit-parameters .result) (c .before .before .before .transmit-parameters .ensures) _ (c .before .verdict .given .1)
 
 enum-told : tie.Need-enum-told
 enum-told c = search needs

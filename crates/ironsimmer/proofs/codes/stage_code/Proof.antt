@@ -1,6 +1,6 @@
 -- `stage_code`: the code of the stage that refused.
-use Rattle.ironsimmer.specs.Calls.{stageCode}
-use Rattle.ironsimmer.proofs.Answers.{known-answer}
+use native.Mathlib.Omega.{arith}
+use Rattle.ironsimmer.proofs.Answers.{known-answer, stageCode}
 use borrow.Author.Needs.{needs}
 use Rattle.ironsimmer.proofs.codes.stage_code.Statement.{statement}
 use Rattle.ironsimmer.proofs.codes.stage_code.Tie as tie
@@ -24,7 +24,7 @@ word-code-requires : tie.Need-word-code-requires
 word-code-requires c κs = search needs
 
 returns : tie.Need-returns
-returns c = known-answer stageCode (c .before .before .stage .given .1) (c .parameter-number .ensures)
+returns c = known-answer stageCode (c .before .before .stage .given .1) (omega (arith, c .parameter-number .ensures))
 
 returns-2 : tie.Need-returns-2
 returns-2 c = known-answer stageCode (c .before .before .stage2 .given .1) (c .marker-code .ensures)

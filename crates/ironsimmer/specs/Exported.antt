@@ -5,7 +5,7 @@ use mathlib.Core.Logic.{_≢_}
 use mathlib.Core.List.{List, [], _∷_, _++_}
 use Prim.Native.Nat.{ℕ, _+_, _*_}
 use lib.Dec.{eqb}
-use Rattle.refusals.specs.Numbers.{parameterNumber, verdictNumber, markerNumber, markerValue, wordNumber, wordValue}
+use Rattle.refusals.specs.Numbers.{verdictNumber}
 use Rattle.refusals.specs.declared.Verdict.{Verdict}
 use Rattle.reed_solomon.specs.Outcome.{EncodeOutcome, DecodeOutcome, decodedNumber, decodedValue}
 use Rattle.randomiser.specs.Outcome.{RandomiseOutcome}
@@ -16,19 +16,11 @@ use Rattle.marker.specs.Numbers.{testedNumber, testedValue, searchedNumber}
 use Rattle.marker.specs.Outcome.{TestOutcome, SearchOutcome}
 use Rattle.convolution.specs.declared.Convolved.{Convolved}
 use Rattle.convolution.specs.Outcome.{ConvolveOutcome, convolvedNumber, convolvedCount}
-use Rattle.chain.specs.declared.Stage.{Stage}
-use Rattle.chain.specs.declared.Stage.the-variants as stage
 use Rattle.chain.specs.Outcome.{TransmitOutcome, ReceiveOutcome, receivedNumber, receivedValue}
 
 -- An answer in one number: the refusal's number, 0 if accepted, in the lowest eight bits, and the refusal's value above them.
 abbrev pub code : ℕ → ℕ → ℕ
 code number value = number + 256 * value
-
--- That of a stage's refusal.
-abbrev pub stageCode : Stage → ℕ
-stageCode (stage.Parameters p) = parameterNumber p
-stageCode (stage.Marker r) = code (markerNumber r) (markerValue r)
-stageCode (stage.Word r) = code (wordNumber r) (wordValue r)
 
 -- A flag: 0 is no, any other number is yes.
 abbrev pub flag : ℕ → Bool
