@@ -1,5 +1,6 @@
 -- What an exported call has answered, by each kind of answer of the call beneath.
 use mathlib.Core.Path.{_≡_, refl, sym, ap, _∙_, subst}
+use mathlib.Core.Bool.{Bool}
 use mathlib.Core.Logic.{_≢_}
 use mathlib.Core.List.{List, [], _∷_, _++_}
 use Prim.Native.Nat.{ℕ}
@@ -29,7 +30,7 @@ use Rattle.chain.specs.declared.Stage.the-variants as stage
 use Rattle.chain.specs.declared.Received.{Received}
 use Rattle.chain.specs.declared.Received.the-variants as received
 use Rattle.chain.specs.Outcome.{ReceiveOutcome, receivedNumber, receivedValue}
-use Rattle.ironsimmer.specs.Exported.{code, flag, searchReport, Lent, DecodingCall, DecodeCall, MarkerCall, Reported, ConvolveCall, ReceiveCall}
+use Rattle.ironsimmer.specs.Exported.{code, searchReport, Lent, DecodingCall, DecodeCall, MarkerCall, Reported, ConvolveCall}
 
 -- ---- one number for an answer
 
@@ -152,17 +153,17 @@ module _ (e i q s : ℕ) (block before reported counts : List ℕ) (total : ℕ)
       decoding-refused decodedNumber decodedValue (DecodeOutcome e i q s block before) reported counts total after answer o n (λ z. word-nonzero r (ap decodedNumber (sym known) ∙ z))
       (known-answer (λ (a : Decoded). code (decodedNumber a) (decodedValue a)) known c)
 
-module _ (e i q s t randomised : ℕ) (marked before reported counts : List ℕ) (total : ℕ) (after : List ℕ) {answer : Received} where
-  pub receive-delivered : (report : List ℕ) → answer ≡ received.Delivered → ReceiveOutcome e i q s t (flag randomised) marked before answer counts total after
-      → report ≡ counts ++ (total ∷ []) → ReceiveCall e i q s t randomised marked before reported 0 after report
+module _ (e i q s t : ℕ) (flag : Bool) (marked before reported counts : List ℕ) (total : ℕ) (after : List ℕ) {answer : Received} where
+  pub receive-delivered : (report : List ℕ) → answer ≡ received.Delivered → ReceiveOutcome e i q s t flag marked before answer counts total after
+      → report ≡ counts ++ (total ∷ []) → DecodingCall receivedNumber receivedValue (ReceiveOutcome e i q s t flag marked before) reported 0 after report
   receive-delivered report known o r =
-      decoding-delivered receivedNumber receivedValue (ReceiveOutcome e i q s t (flag randomised) marked before) reported counts total after answer o report
+      decoding-delivered receivedNumber receivedValue (ReceiveOutcome e i q s t flag marked before) reported counts total after answer o report
       (ap receivedNumber known) (ap receivedValue known) r
 
-  pub receive-refused : (stage : Stage) (n : ℕ) → answer ≡ received.Refused stage → ReceiveOutcome e i q s t (flag randomised) marked before answer counts total after
-      → n ≡ stageCode stage → ReceiveCall e i q s t randomised marked before reported n after reported
+  pub receive-refused : (stage : Stage) (n : ℕ) → answer ≡ received.Refused stage → ReceiveOutcome e i q s t flag marked before answer counts total after
+      → n ≡ stageCode stage → DecodingCall receivedNumber receivedValue (ReceiveOutcome e i q s t flag marked before) reported n after reported
   receive-refused stage n known o c =
-      decoding-refused receivedNumber receivedValue (ReceiveOutcome e i q s t (flag randomised) marked before) reported counts total after answer o n
+      decoding-refused receivedNumber receivedValue (ReceiveOutcome e i q s t flag marked before) reported counts total after answer o n
       (λ z. stage-nonzero stage (ap receivedNumber (sym known) ∙ z)) (known-answer (λ (a : Received). code (receivedNumber a) (receivedValue a)) known c)
 
 -- ---- the search's report

@@ -30,7 +30,7 @@ same-length-2 : tie.Need-same-length-2
 same-length-2 c = search needs
 
 returns-2 : tie.Need-returns-2
-returns-2 c = receive-delivered _ _ _ _ _ (c .before .before .before .before .before .before .before .before .before .before .args .randomised) _ _ _ _ _ _ _ (c .before .before .enum-told .given .1) (c .before .before .before .before .before .before .receive .ensures) (c .report-of .ensures)
+returns-2 c = receive-delivered _ _ _ _ _ _ _ _ _ _ _ _ _ (c .before .before .enum-told .given .1) (c .before .before .before .before .before .before .receive .ensures) (c .report-of .ensures)
 
 pub ironsimmer-receive-spec : {M : Type 1} → statement M
 ironsimmer-receive-spec =
