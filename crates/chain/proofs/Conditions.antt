@@ -18,8 +18,7 @@ use Rattle.codewords.specs.Words.{Good, differing}
 use Rattle.codewords.proofs.LineWords.{differing-self}
 use Rattle.codewords.proofs.Codewords.{good-more-allowance}
 use Rattle.marker.specs.Place.{wrongBits}
-use Rattle.marker.specs.Numbers.{testedNumber, searchedNumber}
-use Rattle.marker.specs.Outcome.{TestOutcome, SearchOutcome}
+use Rattle.marker.specs.Outcome.{testedNumber, searchedNumber, TestOutcome, SearchOutcome}
 use Rattle.marker.specs.declared.Tested.{Tested}
 use Rattle.marker.specs.declared.Searched.{Searched}
 use Rattle.randomiser.specs.Outcome.{RandomiseOutcome}

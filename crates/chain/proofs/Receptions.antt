@@ -24,8 +24,7 @@ use Rattle.refusals.proofs.Orders.{Begins, Clear, Numbered, accepted-clear, cle
 use Rattle.refusals.proofs.Verdicts.{parameter-nonzero, parameter-not-nine, parameter-not-ten, same-verdict, passed, stopped}
 use Rattle.refusals.proofs.Legal.{LegalWords, legal-words}
 use Rattle.marker.specs.Place.{wrongBits}
-use Rattle.marker.specs.Numbers.{testedNumber}
-use Rattle.marker.specs.Outcome.{TestOutcome}
+use Rattle.marker.specs.Outcome.{testedNumber, TestOutcome}
 use Rattle.marker.specs.declared.Tested.{Tested}
 use Rattle.marker.specs.declared.Tested.the-variants as tested
 use Rattle.reed_solomon.specs.declared.Decoded.{Decoded}

@@ -7,14 +7,14 @@ use native.Mathlib.Nat.{not-suc-le-zero, suc-add, add-zero, add-suc}
 use native.Mathlib.Omega.{arith}
 use lib.Dec.{T, eqb, eqb→eq, ltb, ltb→lt}
 use lib.ListN.{length, replicate, length-replicate}
-use Rattle.field.specs.Field.{_⊕_, whereSet, timesAlpha, shiftAndAdd, _·_, pow, beta}
+use Rattle.field.specs.Field.{_⊕_, whereSet, timesAlpha, shiftAndAdd, _·_, pow}
 use Rattle.field.proofs.Below.{both, both-left, both-right}
 use Rattle.field.proofs.Sum.{⊕-self, ⊕-zero, zero-⊕}
 use Rattle.field.proofs.Product.{zero-·, ring, ·-one-octet}
 use Rattle.field.proofs.Powers.{pow-zero, pow-suc}
 use Rattle.codewords.specs.Words.{Octets, valueAt}
 use Rattle.codewords.specs.Polynomials.{_⊞_, scaled}
-use Rattle.codewords.specs.Locators.{X, Code, Generator}
+use Rattle.codewords.specs.Locators.{beta, X, Code, Generator}
 use Rattle.codewords.proofs.Polynomials.{length-scaled}
 use Rattle.codewords.proofs.Division.{⊞-octets, scaled-octets}
 use Rattle.codewords.proofs.WordValues.{value-cons, value-lt, length-pair, value-⊞, value-++, value-scaled, value-one-more, length-snoc, octets-++, zeros-octets, zeros-value, horner, horner-value}

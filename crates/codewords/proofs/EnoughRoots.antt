@@ -7,13 +7,13 @@ use native.Mathlib.Nat.{zero-add, suc-add, add-zero, add-suc}
 use native.Mathlib.Omega.{arith}
 use native.Mathlib.Decide.{decLt, ℕ-discrete}
 use lib.ListN.{length}
-use Rattle.field.specs.Field.{_⊕_, _·_, pow, inverseOf, beta}
+use Rattle.field.specs.Field.{_⊕_, _·_, pow, inverseOf}
 use Rattle.field.proofs.Sum.{⊕-self, ⊕-zero, eq-of-⊕, ⊕-octet}
 use Rattle.field.proofs.Product.{·-lt, ·-comm, ·-assoc, ring, ·-one-octet}
 use Rattle.field.proofs.Powers.{pow-lt, ·-inverse, no-zero, ·-nz}
 use Rattle.codewords.specs.Words.{Octets, valueAt}
 use Rattle.codewords.specs.Polynomials.{eval, _⊞_, scaled, quot, dot}
-use Rattle.codewords.specs.Locators.{X, weight}
+use Rattle.codewords.specs.Locators.{beta, X, weight}
 use Rattle.codewords.specs.Errors.{errorIfRoot, errorOf, errorAt, errorWord, oneIfZero, rootFlags}
 use Rattle.codewords.proofs.Polynomials.{eval-⊞, eval-scaled, length-scaled, length-⊞, dot-lt, Pattern, syndromeOf, syndrome-lt}
 use Rattle.codewords.proofs.Roots.{locators, Proper, Rooted, length-locators, eval-lt, annihilates}

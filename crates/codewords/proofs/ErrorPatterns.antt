@@ -6,12 +6,12 @@ use Prim.Native.Nat.{ℕ, zero, suc, _+_, _*_, _≤_, _<_}
 use native.Mathlib.Nat.{mul-comm}
 use native.Mathlib.Omega.{arith}
 use lib.ListN.{length}
-use Rattle.field.specs.Field.{_⊕_, _·_, pow, alpha, beta}
+use Rattle.field.specs.Field.{_⊕_, _·_, pow, alpha}
 use Rattle.field.proofs.Sum.{zero-⊕}
 use Rattle.field.proofs.Product.{·-lt, zero-·, ·-assoc}
-use Rattle.field.proofs.Powers.{pow-lt, pow-add, pow-mul, ·-nz, beta-primitive, pow-nz, pow-inj}
+use Rattle.field.proofs.Powers.{pow-lt, pow-add, pow-mul, ·-nz, Primitive, eleventh-primitive, pow-nz, pow-inj}
 use Rattle.codewords.specs.Words.{Octets, valueAt}
-use Rattle.codewords.specs.Locators.{X, weight}
+use Rattle.codewords.specs.Locators.{beta, X, weight}
 use Rattle.codewords.proofs.Polynomials.{Pattern, syndromeOf}
 use Rattle.codewords.proofs.Roots.{Away, Proper, Vanish, Solid, vandermonde}
 
@@ -71,6 +71,10 @@ pub pow-nonzero : (a n : ℕ) → a < 256 → a ≢ 0 → pow a n ≢ 0
 unfolding pow
 pow-nonzero a zero h z = omega arith
 pow-nonzero a (suc n) h z = ·-nz a (pow a n) h (pow-lt a n) z (pow-nonzero a n h z)
+
+beta-primitive : Primitive beta
+unfolding beta
+beta-primitive = eleventh-primitive
 
 pub X-nz : (k : ℕ) → k < 255 → X k ≢ 0
 X-nz k h = pow-nz beta beta-primitive k (omega arith)

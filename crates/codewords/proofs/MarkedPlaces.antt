@@ -6,13 +6,13 @@ use Prim.Native.Nat.{ℕ, zero, suc, _+_, _≤_, _<_}
 use native.Mathlib.Nat.{zero-add, add-suc}
 use native.Mathlib.Omega.{arith}
 use lib.ListN.{length}
-use Rattle.field.specs.Field.{_⊕_, _·_, pow, beta}
+use Rattle.field.specs.Field.{_⊕_, _·_, pow}
 use Rattle.field.proofs.Sum.{⊕-self, ⊕-zero, ⊕-octet}
 use Rattle.field.proofs.Product.{·-lt, zero-·, ·-zero, ·-assoc, ring, one-·}
 use Rattle.field.proofs.Powers.{pow-suc, pow-lt, ·-nz, ⊕-nz}
 use Rattle.codewords.specs.Words.{Octets, valueAt}
 use Rattle.codewords.specs.Polynomials.{eval, scaled, byRoot, dot}
-use Rattle.codewords.specs.Locators.{X, weight, unmarkedPart, timesMarks, erasure}
+use Rattle.codewords.specs.Locators.{beta, X, weight, unmarkedPart, timesMarks, erasure}
 use Rattle.codewords.proofs.Polynomials.{length-scaled}
 use Rattle.codewords.proofs.Roots.{eval-byRoot, length-byRoot, eval-lt}
 use Rattle.codewords.proofs.Division.{⊞-octets, scaled-octets, top, top-⊞}

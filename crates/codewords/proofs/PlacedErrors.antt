@@ -5,13 +5,13 @@ use mathlib.Core.List.{List, [], _∷_}
 use Prim.Native.Nat.{ℕ, zero, suc, _+_, _≤_, _<_}
 use native.Mathlib.Omega.{arith}
 use lib.ListN.{length}
-use Rattle.field.specs.Field.{_⊕_, _·_, pow, inverseOf, beta}
+use Rattle.field.specs.Field.{_⊕_, _·_, pow, inverseOf}
 use Rattle.field.proofs.Sum.{zero-⊕}
 use Rattle.field.proofs.Product.{·-lt, zero-·, ·-assoc, ·-one-octet}
 use Rattle.field.proofs.Powers.{pow-lt, pow-add, ·-inverse}
 use Rattle.codewords.specs.Words.{Octets, valueAt}
 use Rattle.codewords.specs.Polynomials.{eval, quot}
-use Rattle.codewords.specs.Locators.{X, weight}
+use Rattle.codewords.specs.Locators.{beta, X, weight}
 use Rattle.codewords.specs.Errors.{errorIfRoot, errorOf, errorAt, errorWord}
 use Rattle.codewords.proofs.Polynomials.{dot-ext, Pattern, syndromeOf}
 use Rattle.codewords.proofs.Roots.{locators, Away, Proper, Rooted, length-locators}

@@ -4,9 +4,13 @@ use mathlib.Core.Path.{_≡_}
 use mathlib.Core.List.{List, [], _∷_}
 use Prim.Native.Nat.{ℕ, zero, suc, _+_, _≤_, _<_}
 use lib.ListN.{length}
-use Rattle.field.specs.Field.{pow, beta}
+use Rattle.field.specs.Field.{pow, alpha}
 use Rattle.codewords.specs.Words.{Octets, valueAt}
 use Rattle.codewords.specs.Polynomials.{_⊞_, byRoot}
+
+-- The element whose powers are the points where codewords vanish, and the locators of places.
+unfoldable pub beta : ℕ
+beta = pow alpha 11
 
 -- The locator of the symbol at the k-th power.
 abbrev pub X : ℕ → ℕ

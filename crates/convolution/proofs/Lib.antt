@@ -1,5 +1,4 @@
--- The laws of the coder: its examples, its symbols and their number, how the code follows them, and that its contract settles it.
-pub mod Examples
+-- The laws of the coder: its symbols and their number, how the code follows them, and that its contract settles it.
 pub mod Symbols
 pub mod Count
 pub mod Settled

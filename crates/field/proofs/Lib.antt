@@ -6,4 +6,3 @@ pub mod Powers
 pub mod Conversions
 pub mod Turns
 pub mod Settled
-pub mod Examples

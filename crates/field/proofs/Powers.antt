@@ -1,4 +1,4 @@
--- Laws of powers: inverses, no zero divisors, and the orders of alpha and beta.
+-- Laws of powers: inverses, no zero divisors, and the orders of alpha and of its eleventh power.
 use mathlib.Core.Path.{_≡_, refl, sym, ap, ap₂, _∙_, subst}
 use mathlib.Core.Logic.{_≢_}
 use mathlib.Core.Bool.{Bool, true, not}
@@ -7,7 +7,7 @@ use native.Mathlib.Nat.{not-suc-le-zero, zero-add, suc-add, mul-zero, mul-suc, a
 use native.Mathlib.Omega.{arith}
 use native.Mathlib.Decide.{decLt}
 use lib.Dec.{T, eqb, eqb→eq, eqb-refl, T-not}
-use Rattle.field.specs.Field.{_⊕_, whereSet, timesAlpha, shiftAndAdd, _·_, pow, inverseOf, alpha, beta}
+use Rattle.field.specs.Field.{_⊕_, whereSet, timesAlpha, shiftAndAdd, _·_, pow, inverseOf, alpha}
 use Rattle.field.proofs.Below.{both, both-left, both-right, allBelow, at-below}
 use Rattle.field.proofs.Sum.{eq-of-⊕}
 use Rattle.field.proofs.Product.{·-lt, zero-·, ·-zero, ·-comm, ·-assoc, ·-one-octet, one-·}
@@ -120,9 +120,9 @@ pub alpha-primitive : Primitive alpha
 unfolding _·_ shiftAndAdd timesAlpha whereSet _⊕_ pow ordWalk
 alpha-primitive = primitive 2 (omega arith) tt refl
 
-pub beta-primitive : Primitive beta
-unfolding _·_ shiftAndAdd timesAlpha whereSet _⊕_ pow ordWalk beta
-beta-primitive = primitive beta (pow-lt 2 11) tt refl
+pub eleventh-primitive : Primitive (pow alpha 11)
+unfolding _·_ shiftAndAdd timesAlpha whereSet _⊕_ pow ordWalk
+eleventh-primitive = primitive (pow alpha 11) (pow-lt 2 11) tt refl
 
 module _ (g : ℕ) (P : Primitive g) where
   pub pow-nz : (i : ℕ) → i < 256 → pow g i ≢ 0

@@ -36,9 +36,6 @@ pow a (suc n) = a · pow a n
 unfoldable pub inverseOf : ℕ → ℕ
 inverseOf a = pow a 254
 
--- The root of F, and the element whose powers the code uses.
+-- The root of F.
 abbrev pub alpha : ℕ
 alpha = 2
-
-unfoldable pub beta : ℕ
-beta = pow alpha 11

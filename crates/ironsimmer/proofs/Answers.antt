@@ -20,8 +20,7 @@ use Rattle.marker.specs.declared.Tested.{Tested}
 use Rattle.marker.specs.declared.Tested.the-variants as tested
 use Rattle.marker.specs.declared.Searched.{Searched}
 use Rattle.marker.specs.declared.Searched.the-variants as searched
-use Rattle.marker.specs.Numbers.{searchedNumber}
-use Rattle.marker.specs.Outcome.{TestOutcome}
+use Rattle.marker.specs.Outcome.{searchedNumber, TestOutcome}
 use Rattle.convolution.specs.declared.Convolved.{Convolved}
 use Rattle.convolution.specs.declared.Convolved.the-variants as convolved
 use Rattle.convolution.specs.Outcome.{ConvolveOutcome}

@@ -10,7 +10,7 @@ use Rattle.reed_solomon.proofs.Settled.{encode-settled}
 use Rattle.reed_solomon.proofs.DecodeSettled.{decode-settled}
 use Rattle.randomiser.specs.Outcome.{NextOutcome, RandomiseOutcome}
 use Rattle.randomiser.proofs.Settled.{next-bits-settled, randomise-settled}
-use Rattle.marker.specs.Numbers.{testedNumber, testedValue, searchedNumber}
+use Rattle.marker.specs.Outcome.{testedNumber, testedValue, searchedNumber}
 use Rattle.marker.proofs.Settled.{test-settled, search-settled}
 use Rattle.convolution.specs.Outcome.{convolvedNumber, convolvedCount}
 use Rattle.convolution.proofs.Settled.{convolve-settled}

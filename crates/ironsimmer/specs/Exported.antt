@@ -12,8 +12,7 @@ use Rattle.randomiser.specs.Outcome.{RandomiseOutcome}
 use Rattle.marker.specs.declared.Tested.{Tested}
 use Rattle.marker.specs.declared.Searched.{Searched}
 use Rattle.marker.specs.declared.Searched.the-variants.{Found, Absent, Spent, Refused}
-use Rattle.marker.specs.Numbers.{testedNumber, testedValue, searchedNumber}
-use Rattle.marker.specs.Outcome.{TestOutcome, SearchOutcome}
+use Rattle.marker.specs.Outcome.{testedNumber, testedValue, searchedNumber, TestOutcome, SearchOutcome}
 use Rattle.convolution.specs.declared.Convolved.{Convolved}
 use Rattle.convolution.specs.Outcome.{ConvolveOutcome, convolvedNumber, convolvedCount}
 use Rattle.chain.specs.Outcome.{TransmitOutcome, ReceiveOutcome, receivedNumber, receivedValue}

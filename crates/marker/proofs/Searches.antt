@@ -13,8 +13,7 @@ use Rattle.refusals.specs.declared.Verdict.{Verdict}
 use Rattle.refusals.specs.declared.Verdict.the-variants as verdict
 use Rattle.marker.specs.declared.Searched.{Searched}
 use Rattle.marker.specs.declared.Searched.the-variants.{Found, Absent, Spent, Refused}
-use Rattle.marker.specs.Numbers.{searchedNumber}
-use Rattle.marker.specs.Outcome.{Looked, SearchOutcome}
+use Rattle.marker.specs.Outcome.{searchedNumber, Looked, SearchOutcome}
 use Rattle.refusals.proofs.Verdicts.{parameter-nonzero, passed}
 
 legal-given : {t stream start : ℕ} → FirstOf (searchOrder t stream start) 0 → (stream ≤ 65536) × (start ≤ 8 * stream)

@@ -14,8 +14,7 @@ use Rattle.marker.specs.declared.Tested.the-variants as tested
 use Rattle.marker.specs.declared.Searched.{Searched}
 use Rattle.marker.specs.declared.Searched.the-variants.{Found, Absent, Spent, Refused}
 use Rattle.marker.specs.Place.{wrongBits, Fits, NoneFits}
-use Rattle.marker.specs.Numbers.{testedNumber, searchedNumber}
-use Rattle.marker.specs.Outcome.{TestOutcome, SearchOutcome, FoundFirst, NoneLeft, BudgetSpent, Looked}
+use Rattle.marker.specs.Outcome.{testedNumber, searchedNumber, TestOutcome, SearchOutcome, FoundFirst, NoneLeft, BudgetSpent, Looked}
 use Rattle.refusals.proofs.Orders.{first-unique}
 use Rattle.refusals.proofs.Settled.{parameter-known}
 use Rattle.refusals.proofs.Verdicts.{parameter-nonzero, parameter-not-nine}

@@ -1,7 +1,7 @@
 -- The bits from a place on as a number, first bit highest: how it grows, splits and is put together from octets, and that the ones of its
 -- sum with the marker are the wrong bits.
 use mathlib.Core.Path.{_≡_, refl, ap, _∙_}
-use mathlib.Core.List.{List}
+use mathlib.Core.List.{List, [], _∷_}
 use Prim.Native.Nat.{ℕ, zero, suc, _+_, _-_, _*_, _/_, _%_, _^_, _≤_, _<_}
 use native.Mathlib.Nat.{add-comm, add-suc, add-zero, div-div-eq-div-mul, pow-suc, mul-assoc, zero-add}
 use native.Mathlib.Omega.{arith}
@@ -114,3 +114,8 @@ marker-word = refl
 
 pub word-wrong : (s : List ℕ) (p : ℕ) → ones (bitXor (word 32 s p) 0x1ACFFC1D) ≡ wrongBits s p
 word-wrong s p = rw marker-word at (ones-wrong 32 s p)
+
+-- The marker zeroed has 19 wrong bits (document 01, "The report program").
+pub zeros-have-nineteen : wrongBits (0 ∷ 0 ∷ 0 ∷ 0 ∷ []) 0 ≡ 19
+unfolding wrongAmong
+zeros-have-nineteen = refl

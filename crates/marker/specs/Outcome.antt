@@ -1,16 +1,34 @@
--- What the marker test and the search answer, for every input (document 01, "Marker, chains and search").
+-- What the marker test and the search answer, for every input (document 01, "Marker, chains and search", "Refusal numbers and the order of checks").
 use mathlib.Core.Path.{_≡_}
 use mathlib.Core.Logic.{_⊎_}
 use mathlib.Core.List.{List}
 use Prim.Native.Nat.{ℕ, _+_, _-_, _≤_}
 use lib.ListN.{length}
 use Rattle.refusals.specs.Order.{FirstOf}
+use Rattle.refusals.specs.Numbers.{parameterNumber, markerNumber, markerValue}
 use Rattle.refusals.specs.Calls.{markerOrder, searchOrder}
 use Rattle.marker.specs.Place.{wrongBits, Place, Fits, NoneFits, remaining}
-use Rattle.marker.specs.Numbers.{testedNumber, testedValue, searchedNumber}
 use Rattle.marker.specs.declared.Tested.{Tested}
+use Rattle.marker.specs.declared.Tested.the-variants as tested
 use Rattle.marker.specs.declared.Searched.{Searched}
 use Rattle.marker.specs.declared.Searched.the-variants.{Found, Absent, Spent, Refused}
+
+-- The number of each answer, as document 01 gives it; 0 is accepted.
+abbrev pub testedNumber : Tested → ℕ
+testedNumber (tested.Accepted wrong) = 0
+testedNumber (tested.Refused r) = markerNumber r
+
+-- Found, absent and spent are answers of a search that was accepted.
+abbrev pub searchedNumber : Searched → ℕ
+searchedNumber (Found place wrong looked) = 0
+searchedNumber (Absent looked) = 0
+searchedNumber (Spent place looked) = 0
+searchedNumber (Refused p) = parameterNumber p
+
+-- The value of the test's answer is the wrong bits; a refusal for a parameter or a length has none, and its value is 0.
+abbrev pub testedValue : Tested → ℕ
+testedValue (tested.Accepted wrong) = wrong
+testedValue (tested.Refused r) = markerValue r
 
 -- The test checks in its order, and answers the wrong bits, accepted or refused by 9.
 pub record TestOutcome (tolerance : ℕ) (octets : List ℕ) (answer : Tested) : Type 0 where

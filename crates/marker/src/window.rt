@@ -7,14 +7,14 @@ ghost use lib.Count.{ones};
 // Written as 1A CF FC 1D.
 const MARKER: u32 = 0x1ACFFC1D;
 
-pub fn wrong_bits(window: u32) -> u32
+pub(crate) fn wrong_bits(window: u32) -> u32
     ensures { λ r. ⌜ r ≡ ones (bitXor window 0x1ACFFC1D) ⌝ }
 {
     u32::count_ones(window ^ MARKER)
 }
 
 // The window moved on by one bit, bit b of the octet, top bit first; its first bit falls out.
-pub fn bit_entered(window: u32, octet: u8, b: usize) -> u32
+pub(crate) fn bit_entered(window: u32, octet: u8, b: usize) -> u32
     requires { ⌜ b < 8 ⌝ }
     ensures { λ r. ⌜ r ≡ window * 2 % 2 ^ 32 + octet / 2 ^ (7 - b) % 2 ⌝ }
 {
@@ -22,7 +22,7 @@ pub fn bit_entered(window: u32, octet: u8, b: usize) -> u32
 }
 
 // The window moved on by a whole octet.
-pub fn octet_entered(window: u32, octet: u8) -> u32
+pub(crate) fn octet_entered(window: u32, octet: u8) -> u32
     ensures { λ r. ⌜ r ≡ window * 256 % 2 ^ 32 + octet ⌝ }
 {
     (window << 8) + octet as u32

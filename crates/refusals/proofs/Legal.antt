@@ -6,7 +6,7 @@ use Prim.Native.Nat.{ℕ, _≤_, _<_}
 use native.Mathlib.Omega.{arith}
 use Rattle.refusals.specs.Order.{FirstOf, OneOf}
 use Rattle.refusals.specs.Sizes.{strengths, depths, rates, information}
-use Rattle.refusals.specs.Calls.{wordParameters, allowedParameters}
+use Rattle.refusals.specs.Working.{wordParameters, allowedParameters}
 use Rattle.refusals.proofs.Orders.{Numbered, Clear, accepted-clear, one-of}
 
 -- The least and the largest number of a list bound every one of it.

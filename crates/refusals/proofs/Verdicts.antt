@@ -6,7 +6,8 @@ use Prim.Native.Nat.{ℕ, _<_}
 use native.Mathlib.Omega.{arith}
 use Rattle.refusals.specs.Order.{Check, FirstOf}
 use Rattle.refusals.specs.Numbers.{parameterNumber, verdictNumber}
-use Rattle.refusals.specs.Calls.{wordParameters, allowedParameters, allowance, input, output}
+use Rattle.refusals.specs.Calls.{allowance, input, output}
+use Rattle.refusals.specs.Working.{wordParameters, allowedParameters}
 use Rattle.refusals.specs.declared.Parameter.{Parameter}
 use Rattle.refusals.specs.declared.Parameter.the-variants.{Strength, Depth, Fill, Allowance, Input, Output, Rate, Tolerance, Start}
 use Rattle.refusals.specs.declared.Verdict.{Verdict}

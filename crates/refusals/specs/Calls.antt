@@ -42,14 +42,8 @@ word uncorrectable = (10, uncorrectable)
 abbrev pub start : ℕ → ℕ → Check
 start from stream = (11, 8 * stream < from)
 
--- The orders, after two beginnings that several of them share. A length is called by what it is the length of; `wrong` is the wrong bits of the four marker octets, and
+-- The orders. A length is called by what it is the length of; `wrong` is the wrong bits of the four marker octets, and
 -- `uncorrectable` says that some word has no codeword with an all-zero fill within the allowance.
-abbrev pub wordParameters : ℕ → ℕ → ℕ → List Check
-wordParameters e i q = strength e ∷ depth i ∷ fill e q ∷ []
-
-abbrev pub allowedParameters : ℕ → ℕ → ℕ → ℕ → List Check
-allowedParameters e i q s = strength e ∷ depth i ∷ fill e q ∷ allowance e s ∷ []
-
 abbrev pub encodeOrder : ℕ → ℕ → ℕ → ℕ → ℕ → List Check
 encodeOrder e i q frame block = strength e ∷ depth i ∷ fill e q ∷ input frame (frameLength e i q) ∷ output block (blockLength i q) ∷ []
 

@@ -5,7 +5,8 @@ ghost use Prim.Native.Nat.{_+_, _*_, _≤_};
 ghost use Rattle.refusals.specs.Order.{FirstOf, OneOf, Tells};
 ghost use Rattle.refusals.specs.Sizes.{strengths, depths, rates, frameLength, blockLength, symbolCount};
 ghost use Rattle.refusals.specs.Numbers.{verdictNumber};
-ghost use Rattle.refusals.specs.Calls.{input, output, wordParameters, allowedParameters, encodeOrder, decodeParameters, randomiseOrder, convolveOrder, markerParameters, searchOrder, transmitOrder, receiveParameters};
+ghost use Rattle.refusals.specs.Calls.{input, output, encodeOrder, decodeParameters, randomiseOrder, convolveOrder, markerParameters, searchOrder, transmitOrder, receiveParameters};
+ghost use Rattle.refusals.specs.Working.{wordParameters, allowedParameters};
 use crate::Parameter;
 use crate::Verdict;
 

@@ -7,11 +7,11 @@ use Prim.Native.Nat.{ℕ, zero, suc, _+_, _-_, _≤_, _<_}
 use native.Mathlib.Omega.{arith}
 use lib.ListN.{length, getD, take, length-take}
 use lib.Seq.{getD-take, ext-getD, length-take-le}
-use Rattle.field.specs.Field.{_⊕_, _·_, pow, beta, inverseOf}
+use Rattle.field.specs.Field.{_⊕_, _·_, pow, inverseOf}
 use Rattle.field.proofs.Sum.{⊕-zero}
 use Rattle.codewords.specs.Words.{Octets}
 use Rattle.codewords.specs.Polynomials.{eval, _⊞_, quot, dot}
-use Rattle.codewords.specs.Locators.{X, weight, Code, syndromes, unmarkedPart, GoodWord, erasure}
+use Rattle.codewords.specs.Locators.{beta, X, weight, Code, syndromes, unmarkedPart, GoodWord, erasure}
 use Rattle.codewords.specs.Errors.{RegisterState, run, errorIfRoot, errorOf, errorAt, errorWord, oneIfZero, rootFlags, changed, register, product, corrections, Counts}
 use Rattle.codewords.proofs.Polynomials.{dot-ext}
 use Rattle.codewords.proofs.WordValues.{length-pair}

@@ -8,10 +8,10 @@ use native.Mathlib.Omega.{arith}
 use lib.ListN.{length, getD, drop, set, drop-of-length-le, replicate}
 use lib.Seq.{drop-cons}
 use lib.Bits.{bitXor}
-use Rattle.field.specs.Field.{_⊕_, whereSet, timesAlpha, shiftAndAdd, _·_, pow, beta}
+use Rattle.field.specs.Field.{_⊕_, whereSet, timesAlpha, shiftAndAdd, _·_, pow}
 use Rattle.field.proofs.Powers.{pow-zero, pow-suc}
 use Rattle.codewords.specs.Words.{Octets}
-use Rattle.codewords.specs.Locators.{X, syndromes}
+use Rattle.codewords.specs.Locators.{beta, X, syndromes}
 use Rattle.codewords.proofs.WordValues.{horner, horner-value}
 use Rattle.words.specs.Working.{Filled, locatorsFrom, hornerAt}
 use Rattle.words.proofs.Arrays.{filled-turn, sum-turn, zero-at}

@@ -11,8 +11,7 @@ enum-known-checked : tie.Need-enum-known-checked
 enum-known-checked c = search needs
 
 returns : tie.Need-returns
-returns c =
-    refused-outcome (c .before .before .before .before .before .before .args .rate) (c .before .before .before .before .before .before .args .octets .now) (c .before .before .before .before .before .before .args .symbols .now) (c .before .before .before .convolve-parameters .result) (c .before .before .before .convolve-parameters .ensures) _ (c .before .checked .given .1)
+returns c = refused-outcome _ _ _ _ (c .before .before .before .convolve-parameters .ensures) _ (c .before .checked .given .1)
 
 enum-told : tie.Need-enum-told
 enum-told c = search needs

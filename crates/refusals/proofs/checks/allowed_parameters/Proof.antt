@@ -3,7 +3,7 @@ use borrow.Author.Needs.{needs}
 use mathlib.Core.Path.{refl}
 use mathlib.Core.Logic.{inl, inr}
 use native.Mathlib.Omega.{arith}
-use Rattle.refusals.specs.Calls.{wordParameters}
+use Rattle.refusals.specs.Working.{wordParameters}
 use Rattle.refusals.proofs.Verdicts.{passed, stopped, after-words}
 use Rattle.refusals.proofs.checks.allowed_parameters.Statement.{statement}
 use Rattle.refusals.proofs.checks.allowed_parameters.Tie as tie

@@ -1,6 +1,6 @@
 -- `decode_parameters` answers checks 1 to 4, then the lengths.
 use borrow.Author.Needs.{needs}
-use Rattle.refusals.specs.Calls.{allowedParameters}
+use Rattle.refusals.specs.Working.{allowedParameters}
 use Rattle.refusals.proofs.Verdicts.{passed, stopped, after-allowance, allowed-words, same-lengths}
 use Rattle.refusals.proofs.checks.decode_parameters.Statement.{statement}
 use Rattle.refusals.proofs.checks.decode_parameters.Tie as tie

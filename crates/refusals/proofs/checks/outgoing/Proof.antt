@@ -2,7 +2,7 @@
 use borrow.Author.Needs.{needs}
 use mathlib.Core.Path.{ap}
 use Prim.Native.Nat.{ℕ, _+_}
-use Rattle.refusals.specs.Calls.{wordParameters}
+use Rattle.refusals.specs.Working.{wordParameters}
 use Rattle.refusals.proofs.Verdicts.{passed, stopped, after-words, same-lengths}
 use Rattle.refusals.proofs.checks.outgoing.Statement.{statement}
 use Rattle.refusals.proofs.checks.outgoing.Tie as tie

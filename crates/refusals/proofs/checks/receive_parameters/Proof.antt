@@ -4,7 +4,7 @@ use mathlib.Core.Path.{refl, ap}
 use mathlib.Core.Logic.{inl, inr}
 use Prim.Native.Nat.{ℕ, _+_}
 use native.Mathlib.Omega.{arith}
-use Rattle.refusals.specs.Calls.{allowedParameters}
+use Rattle.refusals.specs.Working.{allowedParameters}
 use Rattle.refusals.proofs.Verdicts.{passed, stopped, after-allowance, allowed-words, same-lengths}
 use Rattle.refusals.proofs.checks.receive_parameters.Statement.{statement}
 use Rattle.refusals.proofs.checks.receive_parameters.Tie as tie

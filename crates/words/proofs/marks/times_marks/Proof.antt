@@ -5,8 +5,7 @@ use Prim.Native.Nat.{_≤_, _-_}
 use native.Mathlib.Omega.{arith}
 use lib.ListN.{length, drop}
 use borrow.Author.Needs.{needs}
-use Rattle.field.specs.Field.{beta}
-use Rattle.codewords.specs.Locators.{X}
+use Rattle.codewords.specs.Locators.{beta, X}
 use Rattle.words.proofs.MarkedProducts.{product-starts, product-marked, product-plain}
 use Rattle.words.proofs.WordSums.{walk-starts, walk-turn, by-beta}
 use Rattle.words.specs.Working.{HoldsProduct}

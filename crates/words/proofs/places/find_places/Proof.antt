@@ -3,8 +3,8 @@ use mathlib.Core.Path.{_≡_}
 use Prim.Native.Nat.{_≤_, _-_, _+_}
 use native.Mathlib.Omega.{arith}
 use borrow.Author.Needs.{needs}
-use Rattle.field.specs.Field.{pow, beta}
-use Rattle.codewords.specs.Locators.{X}
+use Rattle.field.specs.Field.{pow}
+use Rattle.codewords.specs.Locators.{beta, X}
 use Rattle.words.proofs.PlacesFound.{places-start, place-le, places-turn}
 use Rattle.words.proofs.WordSums.{walk-starts, walk-turn, by-beta}
 use Rattle.words.specs.Working.{HoldsPlaces}

@@ -1,0 +1,13 @@
+-- What the shared checks promise each other: the beginnings that several orders have in common. No public contract speaks of them.
+use mathlib.Core.List.{List, [], _∷_}
+use Prim.Native.Nat.{ℕ}
+use Rattle.refusals.specs.Order.{Check}
+use Rattle.refusals.specs.Calls.{strength, depth, fill, allowance}
+
+-- The checks of every call on words: 1, 2 and 3.
+abbrev pub wordParameters : ℕ → ℕ → ℕ → List Check
+wordParameters e i q = strength e ∷ depth i ∷ fill e q ∷ []
+
+-- The checks of every call that takes a block: 1 to 4.
+abbrev pub allowedParameters : ℕ → ℕ → ℕ → ℕ → List Check
+allowedParameters e i q s = strength e ∷ depth i ∷ fill e q ∷ allowance e s ∷ []
