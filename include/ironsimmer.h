@@ -1,8 +1,9 @@
 /*
  * Ironsimmer: the telemetry coder and decoder of ISO 11754 (CCSDS 101.0-B-5), depth 8 included, proved.
  *
- * Link target/staticlib/libironsimmer.a, which `rt staticlib ironsimmer` writes. No call allocates, keeps state or calls anything; all
- * may be used from several threads at once.
+ * Link target/staticlib/libironsimmer.a, which `rt staticlib ironsimmer` writes. It defines the calls below and no other global name. No
+ * call allocates or keeps state, and none calls anything but memcpy and memset of the C library; all may be used from several threads at
+ * once.
  *
  * Every call but ironsimmer_sequence returns one number: IRONSIMMER_NUMBER of it is the refusal's number, 0 if the call was accepted,
  * and IRONSIMMER_VALUE the refusal's value (of 9 the wrong bits, of 10 the lowest word that has no codeword; else 0). If several
@@ -99,6 +100,8 @@ uint64_t ironsimmer_convolve(uint32_t rate, const uint8_t *data, size_t data_len
 
 /*
  * Codes a frame as encode does, randomises the block unless `randomised` is 0, and puts the marker in front: (255 - Q) I + 4 octets.
+ * Nothing in the marked block says whether it was randomised. The receiver must be told: with the other flag it may deliver another
+ * frame and count nothing wrong (see ironsimmer_receive).
  * Refuses by 1, 2, 3, 5, 6, and then leaves the marked block as it was.
  */
 uint64_t ironsimmer_transmit(uint32_t e, uint32_t depth, uint32_t fill, uint32_t randomised,
@@ -107,6 +110,13 @@ uint64_t ironsimmer_transmit(uint32_t e, uint32_t depth, uint32_t fill, uint32_t
 /*
  * Tests the marker of a marked block, randomises the block again unless `randomised` is 0, and decodes it; frame and counts as in
  * decode. The marked block is not changed.
+ *
+ * WARNING: `randomised` must be the flag that was sent; this call cannot see which it was. With the other flag a block of these sizes is
+ * delivered as ANOTHER FRAME, with nothing counted beyond what was wrong before, because the sequence is there itself made of codewords:
+ *     E 16, Q 0, I 1, 2, 4 or 8
+ *     E 8, Q 0, I 1, 2, 4, 5 or 8
+ * At every other size a block that arrived as it was sent is then refused by 10.
+ *
  * Refuses by 1, 2, 3, 4, 8, 5, 6, 9, 10, and then leaves frame and counts as they were.
  */
 uint64_t ironsimmer_receive(uint32_t e, uint32_t depth, uint32_t fill, uint32_t s, uint32_t tolerance, uint32_t randomised,

@@ -3,7 +3,7 @@ ghost use Prim.Native.Nat.{_≤_, _<_};
 use crate::data::turn;
 
 // How the number of wrong symbols of a word goes by the word.
-pub enum Damage {
+pub(crate) enum Damage {
     None,
     Mixed,
     Full,
@@ -11,7 +11,7 @@ pub enum Damage {
     SomePast,
 }
 
-pub fn number_of(damage: Damage) -> u32
+pub(crate) fn number_of(damage: Damage) -> u32
     ensures { λ r. ⌜ r ≤ 4 ⌝ }
 {
     match damage {
@@ -86,7 +86,7 @@ fn word(block: &mut [u8], depth: u32, w: u32, symbols: u32, wrong: u32, seed: u3
     x
 }
 
-pub fn words(block: &mut [u8], e: u32, depth: u32, fill: u32, damage: Damage, seed: u32)
+pub(crate) fn words(block: &mut [u8], e: u32, depth: u32, fill: u32, damage: Damage, seed: u32)
     requires { ⌜ (e ≤ 16) × (depth ≤ 8) × (fill ≤ 255) ⌝ }
 {
     let mut x = seed;

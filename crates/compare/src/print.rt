@@ -1,16 +1,16 @@
 // What a line is made of.
 use libc::STDOUT_FILENO;
 
-pub fn text(s: &[u8]) {
+pub(crate) fn text(s: &[u8]) {
     io::write_all(STDOUT_FILENO, s);
 }
 
-pub fn number(n: u64) {
+pub(crate) fn number(n: u64) {
     io::write_all(STDOUT_FILENO, b" ");
     io::print_decimal(STDOUT_FILENO, n);
 }
 
-pub fn end() {
+pub(crate) fn end() {
     io::write_all(STDOUT_FILENO, b"\n");
 }
 
@@ -18,7 +18,7 @@ fn wide(x: u8) -> u64 {
     x as u64
 }
 
-pub fn octet(x: u8) {
+fn octet(x: u8) {
     io::write_all(STDOUT_FILENO, b" ");
     io::print_hex(STDOUT_FILENO, wide(x), 2);
 }
@@ -31,7 +31,7 @@ fn octets(s: &[u8]) {
 }
 
 // Octets as numbers.
-pub fn numbers(s: &[u8]) {
+pub(crate) fn numbers(s: &[u8]) {
     let n = s.len();
     for i in 0..n {
         number(wide(s[i]));
@@ -48,7 +48,7 @@ fn digest(s: &[u8]) -> u64 {
 }
 
 // A short buffer whole; a long one by its length and a sum of its octets.
-pub fn buffer(s: &[u8]) {
+pub(crate) fn buffer(s: &[u8]) {
     let n = s.len();
     if n <= 16 {
         octets(s);

@@ -84,7 +84,7 @@ fn coded(e: u32, depth: u32, fill: u32, information: &[u8], block: &mut [u8])
     past(e, depth, fill, block, frame);
 }
 
-pub fn all(e: u32, depth: u32, fill: u32)
+pub(crate) fn all(e: u32, depth: u32, fill: u32)
     requires { ⌜ (1 ≤ e) × (e ≤ 16) × (depth ≤ 8) × (2 * e + fill ≤ 254) ⌝ }
 {
     let sent = interleaved(255 - fill, depth);

@@ -12,7 +12,7 @@ fn code(e: u32, depth: u32, fill: u32) {
     print::number(fill as u64);
 }
 
-pub fn encode(e: u32, depth: u32, fill: u32, frame: &[u8], block: &mut [u8]) {
+pub(crate) fn encode(e: u32, depth: u32, fill: u32, frame: &[u8], block: &mut [u8]) {
     print::text(b"encode");
     code(e, depth, fill);
     let verdict = reed_solomon::encode(e, depth, fill, frame, &mut *block);
@@ -34,7 +34,7 @@ fn answer(decoded: Decoded) {
     }
 }
 
-pub fn decode(e: u32, depth: u32, fill: u32, s: u32, block: &[u8], frame: &mut [u8]) {
+pub(crate) fn decode(e: u32, depth: u32, fill: u32, s: u32, block: &[u8], frame: &mut [u8]) {
     print::text(b"decode");
     code(e, depth, fill);
     print::number(s as u64);
@@ -56,7 +56,14 @@ fn flag(randomised: bool) {
     }
 }
 
-pub fn transmit(e: u32, depth: u32, fill: u32, randomised: bool, frame: &[u8], marked: &mut [u8]) {
+pub(crate) fn transmit(
+    e: u32,
+    depth: u32,
+    fill: u32,
+    randomised: bool,
+    frame: &[u8],
+    marked: &mut [u8],
+) {
     print::text(b"transmit");
     code(e, depth, fill);
     flag(randomised);
@@ -104,7 +111,7 @@ fn reply(received: Received) {
     }
 }
 
-pub fn receive(
+pub(crate) fn receive(
     e: u32,
     depth: u32,
     fill: u32,

@@ -169,7 +169,7 @@ fn two_faults() {
     received(16, 1, 222, 0, 0, false, b"", 1);
 }
 
-pub fn all() {
+pub(crate) fn all() {
     codes();
     parameters();
     lengths();

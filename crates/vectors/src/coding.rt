@@ -134,7 +134,7 @@ fn lost() {
     decoded(16, 1, 222, 17, &block[0..32], 2);
 }
 
-pub fn all() {
+pub(crate) fn all() {
     worked();
     parts(0x01);
     parts(0x80);

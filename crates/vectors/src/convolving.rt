@@ -63,7 +63,7 @@ fn lengths(rate: u32, most: usize)
     drawn(rate, 2045, most);
 }
 
-pub fn all() {
+pub(crate) fn all() {
     worked();
     rates();
     lengths(1, 4088);

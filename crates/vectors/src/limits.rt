@@ -113,7 +113,7 @@ fn pairs() {
     all_four(16, 1, 222, 16, 3, 2, 32);
 }
 
-pub fn all() {
+pub(crate) fn all() {
     strengths();
     depths();
     fills();

@@ -135,7 +135,7 @@ fn long_streams(stream: &mut [u8]) {
     }
 }
 
-pub fn all() {
+pub(crate) fn all() {
     for tolerance in 0..5u32 {
         tests_at(tolerance);
         short_stream(tolerance);

@@ -2,29 +2,29 @@
 use libc::STDOUT_FILENO;
 use refusals::Verdict;
 
-pub fn text(s: &[u8]) {
+pub(crate) fn text(s: &[u8]) {
     io::write_all(STDOUT_FILENO, s);
 }
 
-pub fn number(n: u64) {
+pub(crate) fn number(n: u64) {
     io::write_all(STDOUT_FILENO, b" ");
     io::print_decimal(STDOUT_FILENO, n);
 }
 
-pub fn wide(x: u8) -> u64 {
+fn wide(x: u8) -> u64 {
     x as u64
 }
 
-pub fn octet(x: u8) {
+pub(crate) fn octet(x: u8) {
     io::write_all(STDOUT_FILENO, b" ");
     io::print_hex(STDOUT_FILENO, wide(x), 2);
 }
 
-pub fn end() {
+pub(crate) fn end() {
     io::write_all(STDOUT_FILENO, b"\n");
 }
 
-pub fn octets(s: &[u8]) {
+pub(crate) fn octets(s: &[u8]) {
     let n = s.len();
     for i in 0..n {
         octet(s[i]);
@@ -32,7 +32,7 @@ pub fn octets(s: &[u8]) {
 }
 
 // Octets as numbers.
-pub fn numbers(s: &[u8]) {
+pub(crate) fn numbers(s: &[u8]) {
     let n = s.len();
     for i in 0..n {
         number(wide(s[i]));
@@ -48,12 +48,12 @@ fn digest(s: &[u8]) -> u64 {
     sum
 }
 
-pub fn verdict(v: Verdict) {
+pub(crate) fn verdict(v: Verdict) {
     number(refusals::verdict_number(v));
 }
 
 // A short buffer whole; a long one by its length and a sum of its octets.
-pub fn buffer(s: &[u8]) {
+pub(crate) fn buffer(s: &[u8]) {
     let n = s.len();
     if n <= 16 {
         octets(s);
@@ -64,15 +64,15 @@ pub fn buffer(s: &[u8]) {
 }
 
 // The next of the numbers that stand in for data.
-pub fn turn(x: u32) -> u32 {
+fn turn(x: u32) -> u32 {
     (x % 65536 * 25173 + 13849) % 65536
 }
 
-pub fn drawn(x: u32) -> u8 {
+fn drawn(x: u32) -> u8 {
     (x / 256 % 256) as u8
 }
 
-pub fn fill(x: u32, s: &mut [u8]) {
+pub(crate) fn fill(x: u32, s: &mut [u8]) {
     let n = s.len();
     let mut y = x;
     for i in 0..n {

@@ -33,7 +33,7 @@ fn inverses() {
     }
 }
 
-pub fn all() {
+pub(crate) fn all() {
     table();
     inverses();
 }

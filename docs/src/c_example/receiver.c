@@ -8,6 +8,7 @@
 
 #include "ironsimmer.h"
 
+/* RANDOMISED must be the flag that was sent: ironsimmer_receive cannot see it, and at some sizes (not these) the other goes unnoticed. */
 enum { STRENGTH = 16, WORDS = 5, FILL = 0, ALLOWANCE = 16, TOLERANCE = 3, RANDOMISED = 1 };
 enum { FRAME = (255 - 2 * STRENGTH - FILL) * WORDS, MARKED = (255 - FILL) * WORDS + 4, TOTAL = 8 };
 

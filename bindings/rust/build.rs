@@ -9,7 +9,7 @@ fn folder() -> PathBuf {
     let crate_folder = PathBuf::from(env::var_os("CARGO_MANIFEST_DIR").expect("Cargo names the crate's folder"));
     match env::var_os(VARIABLE) {
         Some(named) => crate_folder.join(named),
-        None => crate_folder.join("../../../target/staticlib"),
+        None => crate_folder.join("../../target/staticlib"),
     }
 }
 

@@ -1,9 +1,9 @@
 //! Frames transmitted, damaged and received.
 
 use crate::both;
-use crate::draw::Draw;
+use crate::draw::{Draw, DEPTHS, STRENGTHS};
 use crate::tally::Tally;
-use ironsimmer::Chain;
+use ironsimmer::{Chain, Refusal, Report, Words};
 
 /// One marked block: wrong bits in its marker, wrong symbols in its words, and received with the same flag or now and then the
 /// other. Within tolerance and allowance the frame must come back, whatever the second program says.
@@ -46,4 +46,41 @@ fn transmitted_and_received() {
     }
     sent.demand("transmit", &[0], 900);
     received.demand("receive", &[0, 9, 10], 300);
+}
+
+/// The strengths and depths at which, with no fill, receive does not see the other flag: those that the header warns of.
+const UNSEEN: [(u32, u32); 9] = [(16, 1), (16, 2), (16, 4), (16, 8), (8, 1), (8, 2), (8, 4), (8, 5), (8, 8)];
+
+/// A block as it was sent, received with the other flag: another frame and no count, or no codeword within E. The code is linear, so that
+/// any one frame shows it of all.
+fn with_the_other_flag(draw: &Draw, received: &mut Tally, chain: Chain) {
+    let Words { strength, depth, fill } = chain.words;
+    let frame = draw.frame(chain.words);
+    let (_, marked) = both::transmit(chain, &frame, &draw.octets(chain.marked_len().unwrap()));
+    let other = Chain { randomised: !chain.randomised, ..chain };
+    let (answer, found) = both::receive(other, strength, 0, &marked, &draw.frame(chain.words));
+    received.count(&answer);
+    if fill == 0 && UNSEEN.contains(&(strength, depth)) {
+        assert_eq!(answer, Ok(Report { counts: [0; 8], total: 0 }), "{chain:?}");
+        assert_ne!(found, frame, "{chain:?}");
+    } else {
+        assert!(matches!(answer, Err(Refusal::Word { .. })), "{chain:?}");
+    }
+}
+
+#[test]
+fn received_with_the_other_flag() {
+    let draw = Draw::new(12);
+    let mut received = Tally::default();
+    for strength in STRENGTHS {
+        for depth in DEPTHS {
+            for fill in 0..255 - 2 * strength {
+                for randomised in [false, true] {
+                    let words = Words { strength, depth, fill };
+                    with_the_other_flag(&draw, &mut received, Chain { words, randomised });
+                }
+            }
+        }
+    }
+    received.demand("receive, the other flag", &[0, 10], 2 * UNSEEN.len());
 }
