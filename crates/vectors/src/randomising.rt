@@ -53,7 +53,7 @@ fn of_length(octets: &mut [u8], n: usize) {
     }
 }
 
-pub fn all() {
+pub(crate) fn all() {
     first_bits();
     contents();
     let mut octets = [0u8; 2041];
