@@ -1,12 +1,18 @@
 -- What document 01 says of the sequence and of the randomiser, of any outcome that the contracts permit.
 use mathlib.Core.Path.{_≡_, refl, sym, ap, ap₂, _∙_}
+use mathlib.Core.Bool.{Bool, cond}
+use mathlib.Core.Logic.{_≢_}
 use mathlib.Core.List.{List, [], _∷_}
-use Prim.Native.Nat.{ℕ, zero, suc, _+_, _%_}
+use Prim.Native.Nat.{ℕ, zero, suc, _+_, _%_, _<_}
 use native.Mathlib.Numerals.{add-one}
+use native.Mathlib.Nat.{not-suc-le-zero, zero-add, add-zero, add-suc, suc-add, le-of-suc-le-suc}
+use borrow.Author.Tests.{eq-eqb}
+use lib.Dec.{eqb}
 use lib.Bits.{bitXor, xor-self, xor-zero-r}
-use lib.ListN.{getD}
+use lib.ListN.{length, getD}
 use Rattle.refusals.specs.Numbers.{verdictNumber}
 use Rattle.refusals.specs.declared.Verdict.{Verdict}
+use Rattle.field.proofs.Below.{equal-below}
 use Rattle.field.proofs.Sum.{xor-assoc}
 use Rattle.randomiser.specs.Sequence.{bitAfter, bitOf, bitFrom, numberFrom, eightOn, sequenceOctet, addedFrom, randomised}
 use Rattle.randomiser.specs.Outcome.{NextOutcome, RandomiseOutcome}
@@ -18,11 +24,6 @@ pub rule : (register n : ℕ)
 unfolding bitFrom bitAfter
 rule register n =
     goes-on (bitOf register 0) (bitOf register 1) (bitOf register 2) (bitOf register 3) (bitOf register 4) (bitOf register 5) (bitOf register 6) (bitOf register 7) n 8
-
--- Case (F): the sequence begins FF 48 0E C0 9A.
-pub begins : (sequenceOctet 0 ≡ 0xFF) × (sequenceOctet 1 ≡ 0x48) × (sequenceOctet 2 ≡ 0x0E) × (sequenceOctet 3 ≡ 0xC0) × (sequenceOctet 4 ≡ 0x9A)
-unfolding sequenceOctet numberFrom bitFrom bitAfter
-begins = (refl, refl, refl, refl, refl)
 
 -- A register after n calls.
 unfoldable pub after : ℕ → ℕ → ℕ
@@ -49,6 +50,17 @@ zero-gives-zeros n octet left o = (o .given ∙ held n, o .left ∙ ap eightOn (
     held zero = refl
     held (suc n) = ap eightOn (held n) ∙ stays
 
+-- A register that holds a one is never left as it was, by a test over all contents.
+abbrev heldStill : ℕ → ℕ
+heldStill register = cond (eqb (eightOn register) register) register 0
+
+pub register-moves-on : (before octet left : ℕ) → before < 256 → before ≢ 0 → NextOutcome before octet left → left ≢ before
+unfolding eightOn numberFrom bitFrom bitAfter
+register-moves-on before octet left small nonzero o still =
+    nonzero
+    (sym (ap (λ (t : Bool). cond t before 0) (eq-eqb (eightOn before) before (sym (o .left) ∙ still)))
+    ∙ equal-below heldStill (λ _. 0) 256 tt before small)
+
 -- Randomised twice, a block is as it was.
 added-twice : (n : ℕ) (block : List ℕ) → addedFrom n (addedFrom n block) ≡ block
 unfolding addedFrom
@@ -61,7 +73,24 @@ pub twice-gives-back : (block once twice : List ℕ) (v w : Verdict) → Randomi
     → verdictNumber v ≡ 0 → verdictNumber w ≡ 0 → twice ≡ block
 twice-gives-back block once twice v w o p a b = p .accepted b ∙ ap randomised (o .accepted a) ∙ added-twice 0 block
 
--- The sequence starts anew at each block: whatever went before, the first octet is added to FF.
-pub starts-anew : (octet : ℕ) (block after : List ℕ) (v : Verdict) → RandomiseOutcome (octet ∷ block) v after → verdictNumber v ≡ 0 → getD after 0 0 ≡ bitXor octet 0xFF
+-- A block with the sequence added, octet by octet.
+added-length : (m : ℕ) (block : List ℕ) → length (addedFrom m block) ≡ length block
 unfolding addedFrom
-starts-anew octet block after v o a = ap (λ (l : List ℕ). getD l 0 0) (o .accepted a) ∙ ap (bitXor octet) (sym sequence-starts)
+added-length m [] = refl
+added-length m (octet ∷ block) = ap suc (added-length (suc m) block)
+
+added-at : (m n : ℕ) (block : List ℕ) → n < length block → getD (addedFrom m block) n 0 ≡ bitXor (getD block n 0) (sequenceOctet (m + n))
+unfolding addedFrom
+added-at m n [] h = absurd (not-suc-le-zero h)
+added-at m zero (octet ∷ block) h = ap (λ (k : ℕ). bitXor octet (sequenceOctet k)) (sym (add-zero m))
+added-at m (suc n) (octet ∷ block) h =
+    added-at (suc m) n block (le-of-suc-le-suc h) ∙ ap (λ (k : ℕ). bitXor (getD block n 0) (sequenceOctet k)) (suc-add m n ∙ sym (add-suc m n))
+
+-- The sequence starts anew at each block: whatever went before, octet n of the block has octet n of the sequence added, counted from the block's own beginning, and the block is
+-- as long as it was. So of two blocks randomised one after the other the second is randomised as if it were the first.
+pub starts-anew : (block after : List ℕ) (v : Verdict) → RandomiseOutcome block v after → verdictNumber v ≡ 0
+    → (length after ≡ length block) × ((n : ℕ) → n < length block → getD after n 0 ≡ bitXor (getD block n 0) (sequenceOctet n))
+starts-anew block after v o a = (
+  ap length (o .accepted a) ∙ added-length 0 block,
+  λ n h. ap (λ (l : List ℕ). getD l n 0) (o .accepted a) ∙ added-at 0 n block h ∙ ap (λ (k : ℕ). bitXor (getD block n 0) (sequenceOctet k)) (zero-add n),
+)

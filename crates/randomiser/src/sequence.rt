@@ -25,11 +25,12 @@ pub fn next(register: &mut Register) -> u8
     octet
 }
 
-// The same on the number that a register holds, for a caller whose register stands in a local.
+// The same on the number that a register holds, for a caller who has no struct to lend.
 pub fn next_bits(bits: &mut u8) -> u8
     ensures { λ octet. ⌜ NextOutcome (now (bits .entry)) octet (now (bits .exit)) ⌝ }
 {
-    let octet = *bits;
-    *bits = step(octet);
+    let mut register = Register { bits: *bits };
+    let octet = next(&mut register);
+    *bits = register.bits;
     octet
 }

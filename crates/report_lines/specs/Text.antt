@@ -14,9 +14,9 @@ pub record Holds (text : Text) (content : List ℕ) : Type 0 where
   pub octets : text .octets ≡ content ++ replicate (96 - length content) 0
 
 -- The answer to a line is a text that holds the line's octets.
-pub record LineOutcome (line : ReportLine) (text : Text) : Type 0 where
-  pub held : Holds text (lineOf line)
+abbrev pub LineOutcome : ReportLine → Text → Type 0
+LineOutcome line text = Holds text (lineOf line)
 
 -- The answer to the octets left over and the number of whole blocks is a text that holds the closing lines.
-pub record ClosingOutcome (left blocks : ℕ) (text : Text) : Type 0 where
-  pub held : Holds text (closingOf left blocks)
+abbrev pub ClosingOutcome : ℕ → ℕ → Text → Type 0
+ClosingOutcome left blocks text = Holds text (closingOf left blocks)

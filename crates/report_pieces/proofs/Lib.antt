@@ -1,3 +1,4 @@
--- The laws of the report's pieces.
+-- The laws of the report's pieces, and of the whole report.
 pub mod Texts
 pub mod Settled
+pub mod Report

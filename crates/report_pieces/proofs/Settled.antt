@@ -15,7 +15,7 @@ use Rattle.report_lines.proofs.Settled.{line-settled, closing-settled}
 use Rattle.report_pieces.specs.Pieces.{answeredLine, emptyFrame, BlockReported, PieceOutcome}
 
 module _ (block : ℕ) (octets : List ℕ) (one other : Text) where
-  block-settled : BlockReported block octets one → BlockReported block octets other → one ≡ other
+  pub block-settled : BlockReported block octets one → BlockReported block octets other → one ≡ other
   block-settled a b =
       let same : (a .answer ≡ b .answer) × (a .counts ≡ b .counts) × (a .total ≡ b .total) × (a .frame ≡ b .frame) =
       receive-settled 16 5 0 16 3 true octets emptyFrame (a .answer) (b .answer) (a .counts) (b .counts) (a .total) (b .total) (a .frame) (b .frame) (a .received) (b .received) in

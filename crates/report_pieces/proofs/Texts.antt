@@ -17,8 +17,8 @@ held-within text content held = omega (arith, whole-length text content held, he
 
 tested-within : (block : ℕ) (octets : List ℕ) (text : Text) (whole : Bool) → leb 1279 (length octets) ≡ whole → PieceOutcome block octets text
     → text .len ≤ length (text .octets)
-tested-within block octets text true test outcome = held-within text _ (outcome .whole (leb-true 1279 (length octets) test) .said .held)
-tested-within block octets text false test outcome = held-within text _ (outcome .left (leb-false 1279 (length octets) test) .held)
+tested-within block octets text true test outcome = held-within text _ (outcome .whole (leb-true 1279 (length octets) test) .said)
+tested-within block octets text false test outcome = held-within text _ (outcome .left (leb-false 1279 (length octets) test))
 
 pub piece-within : (block : ℕ) (octets : List ℕ) (text : Text) → PieceOutcome block octets text → text .len ≤ length (text .octets)
 piece-within block octets text outcome = tested-within block octets text (leb 1279 (length octets)) refl outcome

@@ -1,2 +1,3 @@
--- What the report says of a piece of its input.
+-- What the report says of a piece of its input, and of the whole.
 pub mod Pieces
+pub mod Report

@@ -20,6 +20,12 @@ slice-aggregate-read-full c = search needs
 read-full-requires : tie.Need-read-full-requires Inv-loop μ-loop
 read-full-requires c κs = search needs
 
+ended-requires : tie.Need-ended-requires Inv-loop μ-loop
+ended-requires c κs = search needs
+
+returns : tie.Need-returns Inv-loop μ-loop
+returns c = search needs
+
 array-share-prefix-octets : tie.Need-array-share-prefix-octets Inv-loop μ-loop
 array-share-prefix-octets c = search needs
 
@@ -32,14 +38,14 @@ piece-requires c κs = search needs
 array-share-prefix-line : tie.Need-array-share-prefix-line Inv-loop μ-loop
 array-share-prefix-line c = piece-within _ _ _ (c .before .piece .ensures)
 
-slice-aggregate-write-all : tie.Need-slice-aggregate-write-all Inv-loop μ-loop
-slice-aggregate-write-all c = piece-counted _ _ _ (c .before .before .piece .ensures)
+slice-aggregate-written : tie.Need-slice-aggregate-written Inv-loop μ-loop
+slice-aggregate-written c = piece-counted _ _ _ (c .before .before .piece .ensures)
 
-write-all-requires : tie.Need-write-all-requires Inv-loop μ-loop
-write-all-requires c κs = search needs
+written-requires : tie.Need-written-requires Inv-loop μ-loop
+written-requires c κs = search needs
 
-returns : tie.Need-returns Inv-loop μ-loop
-returns c = search needs
+returns-2 : tie.Need-returns-2 Inv-loop μ-loop
+returns-2 c = search needs
 
 add-block : tie.Need-add-block Inv-loop μ-loop
 add-block c = search needs
@@ -50,8 +56,8 @@ loop-less c = search needs
 loop-again : tie.Need-loop-again Inv-loop μ-loop
 loop-again c = search needs
 
-returns-2 : tie.Need-returns-2 Inv-loop μ-loop
-returns-2 c = search needs
+returns-3 : tie.Need-returns-3 Inv-loop μ-loop
+returns-3 c = search needs
 
 pub main-spec : {M : Type 1} → statement M
 main-spec =
@@ -62,14 +68,16 @@ main-spec =
     loop-holds
     slice-aggregate-read-full
     read-full-requires
+    ended-requires
+    returns
     array-share-prefix-octets
     slice-aggregate-piece
     piece-requires
     array-share-prefix-line
-    slice-aggregate-write-all
-    write-all-requires
-    returns
+    slice-aggregate-written
+    written-requires
+    returns-2
     add-block
     loop-less
     loop-again
-    returns-2)
+    returns-3)

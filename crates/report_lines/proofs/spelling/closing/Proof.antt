@@ -20,7 +20,7 @@ use Rattle.report_lines.proofs.spelling.closing.Tie as tie
 closed : (left blocks : ℕ) {some : Bool} {text : Text} → ltb 0 left ≡ some → Holds text (cond some (lineOf (Short left)) [] ++ lineOf (End blocks))
     → ClosingOutcome left blocks text
 closed left blocks {text = text} test held =
-    record { held = subst (λ (t : Bool). Holds text (cond t (lineOf (Short left)) [] ++ lineOf (End blocks))) (sym test) held }
+    subst (λ (t : Bool). Holds text (cond t (lineOf (Short left)) [] ++ lineOf (End blocks))) (sym test) held
 
 slice-aggregate-count-line : tie.Need-slice-aggregate-count-line
 slice-aggregate-count-line c = search needs

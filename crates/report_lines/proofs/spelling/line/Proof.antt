@@ -9,7 +9,7 @@ use Rattle.report_lines.proofs.spelling.line.Statement.{statement}
 use Rattle.report_lines.proofs.spelling.line.Tie as tie
 
 told : {l kind : ReportLine} {text : Text} → l ≡ kind → Holds text (lineOf kind) → LineOutcome l text
-told {text = text} e held = record { held = subst (λ (x : ReportLine). Holds text (lineOf x)) (sym e) held }
+told {text = text} e held = subst (λ (x : ReportLine). Holds text (lineOf x)) (sym e) held
 
 enum-known-l : tie.Need-enum-known-l
 enum-known-l c = search needs
