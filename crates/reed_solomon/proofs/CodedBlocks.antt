@@ -109,10 +109,23 @@ module _ (e i q : ℕ) (frame before put after : List ℕ) (rows : List (List �
         ∙ ap₂ {C = List ℕ} (λ (x y : List ℕ). x ++ y) (sent-information i frame after w symbols h (legal .input) first) last))
         (row-codeword e (T .generator) (T .right) (omega (arith, legal .words .weak)) (legal .words .strong) i frame w symbols q (omega (arith, sizes, legal .words .filled)) octets)
 
-  pub block-coded : Coded e i q frame after
+  block-coded : Coded e i q frame after
   block-coded = record { information = first; words = word-coded }
 
 -- ---- encode
+
+-- the checks of the frame's words, put behind what the block held
+pub record ChecksWritten (e i : ℕ) (frame after : List ℕ) : Type 0 where
+  pub put : List ℕ
+  pub rows : List (List ℕ)
+  pub table : List ℕ
+  pub listed : StrengthTable e table
+  pub done : RowsDone table i frame rows
+  pub checks : ChecksPut rows i (length frame) put after
+
+abbrev pub checks-written : (e i : ℕ) (frame after put : List ℕ) (rows : List (List ℕ)) (table : List ℕ) → StrengthTable e table → RowsDone table i frame rows
+    → ChecksPut rows i (length frame) put after → ChecksWritten e i frame after
+checks-written e i frame after put rows table T R C = record { put = put; rows = rows; table = table; listed = T; done = R; checks = C }
 
 -- what a slice of octets is known to hold
 pub octets-known : (frame : List ℕ) → ((m : ℕ) → Fits w8 (getD frame m 0)) → (m : ℕ) → getD frame m 0 < 256
@@ -129,6 +142,11 @@ module _ (e i q : ℕ) (frame before after : List ℕ) where
         accepted = λ n. absurd (parameter-nonzero p n);
       }
 
-  pub encode-accepts : FirstOf (encodeOrder e i q (length frame) (length before)) 0 → Coded e i q frame after → length after ≡ length before
-      → EncodeOutcome e i q frame before Accepted after
-  encode-accepts first coded size = record { number = first; size = size; refused = λ n. absurd (n refl); accepted = λ n. coded }
+  pub encode-accepts : FirstOf (encodeOrder e i q (length frame) (length before)) 0 → ((m : ℕ) → getD frame m 0 < 256) → (W : ChecksWritten e i frame after)
+      → W .put ≡ copiedOver frame before → EncodeOutcome e i q frame before Accepted after
+  encode-accepts first octets W copied = record {
+    number = first;
+    size = W .checks .size ∙ put-size frame before (W .put) copied;
+    refused = λ n. absurd (n refl);
+    accepted = λ n. block-coded e i q frame before (W .put) after (W .rows) (W .table) (encode-legal e i q (length frame) (length before) first) (W .listed) (W .done) copied (W .checks) octets;
+  }

@@ -9,7 +9,7 @@ use native.Mathlib.Decide.{decLt}
 use lib.ListN.{length, take, drop, getD, replicate, List·getD-append}
 use lib.Seq.{getD-take, length-take-le}
 use Rattle.octets.specs.Copies.{copiedOver}
-use Rattle.octets.proofs.Laws.{copied-fitting}
+use Rattle.octets.proofs.Laws.{copied-fitting, copied-length}
 use Rattle.refusals.specs.Order.{FirstOf}
 use Rattle.refusals.specs.Sizes.{information, frameLength, blockLength}
 use Rattle.refusals.specs.Numbers.{verdictNumber}
@@ -72,6 +72,13 @@ fitting e i q s block repaired frame size f =
 
 -- ---- the answers
 
+-- a list that holds every word repaired, and the report of them
+pub record AllGood (e i q s : ℕ) (block counts : List ℕ) (total : ℕ) : Type 0 where
+  pub repaired : List ℕ
+  pub delivery : Delivery e i q s block repaired counts total
+  pub room : length repaired ≡ 2040
+  pub size : length counts ≡ 8
+
 -- a refusal's answer, with the report all zero
 abbrev pub Refusal : WordRefusal → Decoded → List ℕ → ℕ → Type 0
 Refusal refusal a c t = (a ≡ Refused refusal) × (t ≡ 0) × (c ≡ replicate 8 0)
@@ -111,60 +118,75 @@ module _ (e i q s : ℕ) (block frame : List ℕ) where
           delivered = λ z. absurd (omega arith);
         }
 
-    pub delivers : (counts : List ℕ) (total : ℕ) (after : List ℕ) → Delivery e i q s block after counts total → (length after ≡ length frame) × (length counts ≡ 8)
-        → DecodeOutcome e i q s block frame Delivered counts total after
-    delivers counts total after D size =
-        record {
-          number = first-passes (decodeParameters e i q s (length block) (length frame)) 0 (decode-numbers e i q s (length block) (length frame)) f
-              (inr ((λ l. l .2 (D .codewords (l .0)) (D .good (l .0) (l .1))), refl));
-          word = λ ten. absurd (omega arith);
-          size = size;
-          refused = λ n. absurd (n refl);
-          delivered = λ z. D;
-        }
-
   module _ (words : ℕ) (counts : List ℕ) (total len : ℕ) (repaired : List ℕ) (R : Repaired e i q s block words counts total len repaired) where
     pub lowest-lost : words < i → LowestLost e i q s block words
     lowest-lost h = record { within = h; lost = R .stopped h; before = λ v l. (R .sofar .each v l .codeword, R .sofar .each v l .good) }
 
-    module _ (f : FirstOf (decodeParameters e i q s (length block) (length frame)) 0) where
-      L : LegalBlock e i q s (length block) (length frame)
-      L = legal-block e i q s (length block) (length frame) f
+    pub frame-within : FirstOf (decodeParameters e i q s (length block) (length frame)) 0 → len ≡ 2040 → length frame ≤ length repaired
+    frame-within f room =
+        let L : LegalBlock e i q s (length block) (length frame) = legal-block e i q s (length block) (length frame) f in
+        omega (arith, R .size, L .room, frame-most e i q (L .words))
 
-      pub frame-within : len ≡ 2040 → length frame ≤ length repaired
-      frame-within room = omega (arith, R .size, L .room, frame-most e i q (L .words))
+    -- every word is good, and the list holds them repaired
+    pub words-delivered : i ≤ words → Delivery e i q s block repaired counts total
+    words-delivered h =
+        record {
+          codewords = λ w. chosen w .0;
+          good = λ w l. chosen w .1 l .0;
+          symbols = λ k w m l. chosen w .1 l .1 k m;
+          count = λ w l. chosen w .1 l .2;
+          beyond = λ w l. R .sofar .beyond w (omega (arith, R .reached));
+          summed = R .sofar .summed;
+        }
+      where
+        each : (w : ℕ) → w < i → HasCodeword e i q s block w repaired (getD counts w 0)
+        each w l = R .sofar .each w (omega arith)
 
-      -- every word is good, and the frame is the front of the repaired words
-      pub all-good : i ≤ words → len ≡ 2040 → (after : List ℕ) → after ≡ copiedOver (take (length frame) repaired) frame → Delivery e i q s block after counts total
-      all-good h room after is =
-          record {
-            codewords = λ w. chosen w .0;
-            good = λ w l. chosen w .1 l .0;
-            symbols = λ k w m l. at (k * i + w) (omega (arith, L .room, place-below i k (information e - q) w m l)) ∙ chosen w .1 l .1 k m;
-            count = λ w l. chosen w .1 l .2;
-            beyond = λ w l. R .sofar .beyond w (omega (arith, R .reached));
-            summed = R .sofar .summed;
-          }
-        where
-          front : List ℕ
-          front = take (length frame) repaired
+        -- a codeword for every number, which is the word's for every word
+        chosen : (w : ℕ) → (c : List ℕ) × (w < i → Good e q s (wordOf i q block w) c
+            × ((k : ℕ) → k < information e - q → getD repaired (k * i + w) 0 ≡ getD c (q + k) 0) × (getD counts w 0 ≡ differing (wordOf i q block w) c))
+        chosen w =
+            elim (decLt w i) [
+              | yes l ↦ (each w l .codeword, λ m. (each w l .good, each w l .symbols, each w l .count-is))
+              | no n ↦ ([], λ l. absurd (n l))
+            ]
 
-          front-size : length front ≡ length frame
-          front-size = length-take-le (length frame) repaired (frame-within room)
+    abbrev pub all-good : i ≤ words → len ≡ 2040 → AllGood e i q s block counts total
+    all-good h room = record { repaired = repaired; delivery = words-delivered h; room = R .size ∙ room; size = R .sofar .size }
 
-          at : (n : ℕ) → n < length frame → getD after n 0 ≡ getD repaired n 0
-          at n l =
-              ap (λ (list : List ℕ). getD list n 0) (is ∙ copied-fitting front frame (omega (arith, front-size)))
-              ∙ List·getD-append front (drop (length front) frame) 0 n (omega (arith, front-size)) ∙ getD-take (length frame) repaired n 0 l
+  module _ (f : FirstOf (decodeParameters e i q s (length block) (length frame)) 0) (counts : List ℕ) (total : ℕ) (after : List ℕ) (A : AllGood e i q s block counts total)
+      (is : after ≡ copiedOver (take (length frame) (A .repaired)) frame) where
+    L : LegalBlock e i q s (length block) (length frame)
+    L = legal-block e i q s (length block) (length frame) f
 
-          each : (w : ℕ) → w < i → HasCodeword e i q s block w repaired (getD counts w 0)
-          each w l = R .sofar .each w (omega arith)
+    abbrev front : List ℕ
+    front = take (length frame) (A .repaired)
 
-          -- a codeword for every number, which is the word's for every word
-          chosen : (w : ℕ) → (c : List ℕ) × (w < i → Good e q s (wordOf i q block w) c
-              × ((k : ℕ) → k < information e - q → getD repaired (k * i + w) 0 ≡ getD c (q + k) 0) × (getD counts w 0 ≡ differing (wordOf i q block w) c))
-          chosen w =
-              elim (decLt w i) [
-                | yes l ↦ (each w l .codeword, λ m. (each w l .good, each w l .symbols, each w l .count-is))
-                | no n ↦ ([], λ l. absurd (n l))
-              ]
+    front-size : length front ≡ length frame
+    front-size = length-take-le (length frame) (A .repaired) (omega (arith, A .room, L .room, frame-most e i q (L .words)))
+
+    at : (n : ℕ) → n < length frame → getD after n 0 ≡ getD (A .repaired) n 0
+    at n l =
+        ap (λ (list : List ℕ). getD list n 0) (is ∙ copied-fitting front frame (omega (arith, front-size)))
+        ∙ List·getD-append front (drop (length front) frame) 0 n (omega (arith, front-size)) ∙ getD-take (length frame) (A .repaired) n 0 l
+
+    -- the frame is the front of the repaired words
+    D : Delivery e i q s block after counts total
+    D = record {
+      codewords = A .delivery .codewords;
+      good = A .delivery .good;
+      symbols = λ k w m l. at (k * i + w) (omega (arith, L .room, place-below i k (information e - q) w m l)) ∙ A .delivery .symbols k w m l;
+      count = A .delivery .count;
+      beyond = A .delivery .beyond;
+      summed = A .delivery .summed;
+    }
+
+    pub delivers : DecodeOutcome e i q s block frame Delivered counts total after
+    delivers = record {
+      number = first-passes (decodeParameters e i q s (length block) (length frame)) 0 (decode-numbers e i q s (length block) (length frame)) f
+          (inr ((λ l. l .2 (D .codewords (l .0)) (D .good (l .0) (l .1))), refl));
+      word = λ ten. absurd (omega arith);
+      size = (ap length is ∙ copied-length front frame, A .size);
+      refused = λ n. absurd (n refl);
+      delivered = λ z. D;
+    }

@@ -4,7 +4,7 @@ use mathlib.Core.Path.{refl}
 use native.Mathlib.Omega.{arith}
 use lib.ListN.{length}
 use Rattle.refusals.proofs.Verdicts.{passed}
-use Rattle.reed_solomon.proofs.CodedBlocks.{EncodeLegal, encode-legal, checks-room, block-coded, octets-known, encode-refuses, encode-accepts}
+use Rattle.reed_solomon.proofs.CodedBlocks.{EncodeLegal, encode-legal, checks-room, octets-known, checks-written, encode-refuses, encode-accepts}
 use borrow.Author.Needs.{needs}
 use Rattle.reed_solomon.proofs.encoder.encode.Statement.{statement}
 use Rattle.reed_solomon.proofs.encoder.encode.Tie as tie
@@ -15,7 +15,7 @@ returns c = encode-refuses _ _ _ _ _ _ _ _ (c .before .verdict .given .1) (c .be
 
 -- accepted
 returns-2 : tie.Need-returns-2
-returns-2 c = encode-accepts _ _ _ _ _ _ (search passed) (search (block-coded, encode-legal, passed, octets-known)) (omega arith)
+returns-2 c = encode-accepts _ _ _ _ _ _ (search passed) (search octets-known) (search checks-written) (search)
 
 encode-parameters-requires : tie.Need-encode-parameters-requires
 encode-parameters-requires c κs = search needs
