@@ -128,6 +128,7 @@ module _ (e i q : ℕ) (flag : Bool) (frame before : List ℕ) (v : Verdict) (ma
       length-is = omega (arith, randomised-length flag (drop 4 received), length-drop 4 received, same, O .size, size)
 
       two : (A .answered ≡ decoded.Delivered) × (after ≡ frame) × ((w : ℕ) → w < i → getD counts w 0 ≡ differing (wordOf i q block w) (wordOf i q (opened flag received) w))
+          × ((w : ℕ) → i ≤ w → getD counts w 0 ≡ 0) × (total ≡ sum counts)
       two =
           condition-two e i q frame block block Accepted encoded refl (opened flag received) length-is
           (λ w h. subst (λ (list : List ℕ). differing (wordOf i q list w) (wordOf i q (opened flag received) w) ≤ e) opened-is (near w h)) out room (A .answered) counts total after (A .outcome)
@@ -163,6 +164,7 @@ module _ (e i q : ℕ) (flag : Bool) (frame before : List ℕ) (v : Verdict) (ma
           condition-three-exactly-if e i q s block out (decodes s t small few marked out refl room) (A .answered) counts total after D .1 (λ w h. (wordOf i q block w, itself w h))
 
       two : (A .answered ≡ decoded.Delivered) × (after ≡ frame) × ((w : ℕ) → w < i → getD counts w 0 ≡ differing (wordOf i q block w) (wordOf i q block w))
+          × ((w : ℕ) → i ≤ w → getD counts w 0 ≡ 0) × (total ≡ sum counts)
       two =
           condition-two e i q frame block block Accepted encoded refl block refl (λ w h. omega (arith, differing-self (wordOf i q block w))) out room (A .answered) counts total after
           (widened e i q s e block out (A .answered) counts total after small (decodes e t (omega arith) few marked out refl room) zero D)

@@ -6,6 +6,8 @@ use native.Mathlib.Nat.{mul-le-mul-right}
 use native.Mathlib.Omega.{arith}
 use lib.ListN.{length, take, getD}
 use lib.Seq.{getD-take}
+use mir.Syntax.{w8}
+use mir.Val.{Fits}
 use Rattle.octets.specs.Copies.{copiedOver}
 use Rattle.octets.proofs.Laws.{copied-length, copied-front}
 use Rattle.refusals.specs.Order.{FirstOf}
@@ -17,7 +19,7 @@ use Rattle.refusals.specs.declared.Verdict.{Verdict}
 use Rattle.refusals.specs.declared.Verdict.the-variants.{Accepted, Refused}
 use Rattle.refusals.proofs.Orders.{Numbered, Clear, accepted-clear, not-different}
 use Rattle.refusals.proofs.Legal.{LegalWords, legal-words}
-use Rattle.refusals.proofs.Verdicts.{parameter-nonzero, same-verdict, passed}
+use Rattle.refusals.proofs.Verdicts.{parameter-nonzero, same-verdict}
 use Rattle.codewords.specs.Words.{Codeword, withFill}
 use Rattle.reed_solomon.specs.Blocks.{sentFrom, wordOf}
 use Rattle.reed_solomon.specs.Outcome.{Coded, EncodeOutcome}
@@ -43,9 +45,6 @@ encode-legal e i q frame block f =
       input = not-different frame (frameLength e i q) (clear .1 .1 .1 .0);
       output = not-different block (blockLength i q) (clear .1 .1 .1 .1 .0);
     }
-
-pub verdict-legal : (e i q frame block : ℕ) (v : Verdict) → v ≡ Accepted → FirstOf (encodeOrder e i q frame block) (verdictNumber v) → EncodeLegal e i q frame block
-verdict-legal e i q frame block v accepts first = encode-legal e i q frame block (passed (encodeOrder e i q frame block) v accepts first)
 
 -- the checks fill what the frame leaves
 pub checks-fit : (e i q frame block : ℕ) → EncodeLegal e i q frame block → frame + (e + e) * i ≡ block
@@ -110,34 +109,44 @@ module _ (e i q : ℕ) (frame before put after : List ℕ) (rows : List (List �
         ∙ ap₂ {C = List ℕ} (λ (x y : List ℕ). x ++ y) (sent-information i frame after w symbols h (legal .input) first) last))
         (row-codeword e (T .generator) (T .right) (omega (arith, legal .words .weak)) (legal .words .strong) i frame w symbols q (omega (arith, sizes, legal .words .filled)) octets)
 
-  pub block-coded : Coded e i q frame after
+  block-coded : Coded e i q frame after
   block-coded = record { information = first; words = word-coded }
-
-  pub block-size : length after ≡ length before
-  block-size = C .size ∙ put-size frame before put P
 
 -- ---- encode
 
-module _ (e i q : ℕ) (frame before : List ℕ) (v : Verdict) (first : FirstOf (encodeOrder e i q (length frame) (length before)) (verdictNumber v)) where
-  pub encode-refuses : (p : Parameter) → v ≡ Refused p → EncodeOutcome e i q frame before (Refused p) before
-  encode-refuses p refuses =
+-- the checks of the frame's words, put behind what the block held
+pub record ChecksWritten (e i : ℕ) (frame after : List ℕ) : Type 0 where
+  pub put : List ℕ
+  pub rows : List (List ℕ)
+  pub table : List ℕ
+  pub listed : StrengthTable e table
+  pub done : RowsDone table i frame rows
+  pub checks : ChecksPut rows i (length frame) put after
+
+abbrev pub checks-written : (e i : ℕ) (frame after put : List ℕ) (rows : List (List ℕ)) (table : List ℕ) → StrengthTable e table → RowsDone table i frame rows
+    → ChecksPut rows i (length frame) put after → ChecksWritten e i frame after
+checks-written e i frame after put rows table T R C = record { put = put; rows = rows; table = table; listed = T; done = R; checks = C }
+
+-- what a slice of octets is known to hold
+pub octets-known : (frame : List ℕ) → ((m : ℕ) → Fits w8 (getD frame m 0)) → (m : ℕ) → getD frame m 0 < 256
+octets-known frame known m = known m .fits
+
+module _ (e i q : ℕ) (frame before after : List ℕ) where
+  pub encode-refuses : (v : Verdict) (p : Parameter) → v ≡ Refused p → FirstOf (encodeOrder e i q (length frame) (length before)) (verdictNumber v) → after ≡ before
+      → EncodeOutcome e i q frame before (Refused p) after
+  encode-refuses v p refuses first untouched =
       record {
         number = same-verdict (encodeOrder e i q (length frame) (length before)) v (Refused p) refuses first;
-        size = refl;
-        refused = λ n. refl;
+        size = ap length untouched;
+        refused = λ n. untouched;
         accepted = λ n. absurd (parameter-nonzero p n);
       }
 
-  pub encode-accepts : (put after : List ℕ) (rows : List (List ℕ)) (table : List ℕ) → v ≡ Accepted → StrengthTable e table → RowsDone table i frame rows
-      → put ≡ copiedOver frame before → ChecksPut rows i (length frame) put after → ((m : ℕ) → getD frame m 0 < 256)
-      → EncodeOutcome e i q frame before Accepted after
-  encode-accepts put after rows table accepts T R P C octets =
-      record {
-        number = same-verdict (encodeOrder e i q (length frame) (length before)) v Accepted accepts first;
-        size = block-size e i q frame before put after rows table legal T R P C octets;
-        refused = λ n. absurd (n refl);
-        accepted = λ n. block-coded e i q frame before put after rows table legal T R P C octets;
-      }
-    where
-      legal : EncodeLegal e i q (length frame) (length before)
-      legal = verdict-legal e i q (length frame) (length before) v accepts first
+  pub encode-accepts : FirstOf (encodeOrder e i q (length frame) (length before)) 0 → ((m : ℕ) → getD frame m 0 < 256) → (W : ChecksWritten e i frame after)
+      → W .put ≡ copiedOver frame before → EncodeOutcome e i q frame before Accepted after
+  encode-accepts first octets W copied = record {
+    number = first;
+    size = W .checks .size ∙ put-size frame before (W .put) copied;
+    refused = λ n. absurd (n refl);
+    accepted = λ n. block-coded e i q frame before (W .put) after (W .rows) (W .table) (encode-legal e i q (length frame) (length before) first) (W .listed) (W .done) copied (W .checks) octets;
+  }

@@ -19,7 +19,7 @@ use Rattle.codewords.proofs.LineWords.{differing-symmetric}
 use Rattle.codewords.proofs.Codewords.{good-unique, good-more-allowance}
 use Rattle.reed_solomon.specs.declared.Decoded.{Decoded}
 use Rattle.reed_solomon.specs.declared.Decoded.the-variants.{Delivered}
-use Rattle.reed_solomon.specs.Blocks.{wordOf, sentFrom}
+use Rattle.reed_solomon.specs.Blocks.{wordOf, sentFrom, sum}
 use Rattle.reed_solomon.specs.Outcome.{Coded, EncodeOutcome, Delivery, DecodeOutcome, decodedNumber, decodedValue}
 use Rattle.reed_solomon.proofs.Interleaving.{sent-at}
 use Rattle.reed_solomon.proofs.Deliveries.{LegalBlock, legal-block, decode-numbers}
@@ -53,14 +53,20 @@ module _ (e i q s : ℕ) (block before : List ℕ) (legal : Passed e i q s block
     )
 
     -- Delivered: whatever codeword is good for a word, the frame has its information symbols, and the count is the true number of
-    -- symbols in which they differ.
-    pub condition-three-counts : decodedNumber answer ≡ 0 → (w : ℕ) → w < i → (c : List ℕ) → Good e q s (wordOf i q block w) c
-        → (getD counts w 0 ≡ differing (wordOf i q block w) c) × ((k : ℕ) → k < information e - q → getD after (k * i + w) 0 ≡ getD c (q + k) 0)
-    condition-three-counts z w h c G =
-        let same : O .delivered z .codewords w ≡ c = condition-three-unique w (O .delivered z .codewords w) c (O .delivered z .good w h) G in (
-          O .delivered z .count w h ∙ ap (differing (wordOf i q block w)) same,
-          (λ k l. O .delivered z .symbols k w l h ∙ ap (λ (word : List ℕ). getD word (q + k) 0) same),
-        )
+    -- symbols in which they differ; the counts beyond the depth are zero, and the total is the sum of the counts.
+    pub condition-three-counts : decodedNumber answer ≡ 0
+        → ((w : ℕ) → w < i → (c : List ℕ) → Good e q s (wordOf i q block w) c
+        → (getD counts w 0 ≡ differing (wordOf i q block w) c) × ((k : ℕ) → k < information e - q → getD after (k * i + w) 0 ≡ getD c (q + k) 0))
+        × ((w : ℕ) → i ≤ w → getD counts w 0 ≡ 0) × (total ≡ sum counts)
+    condition-three-counts z = (words, O .delivered z .beyond, O .delivered z .summed)
+      where
+        words : (w : ℕ) → w < i → (c : List ℕ) → Good e q s (wordOf i q block w) c
+            → (getD counts w 0 ≡ differing (wordOf i q block w) c) × ((k : ℕ) → k < information e - q → getD after (k * i + w) 0 ≡ getD c (q + k) 0)
+        words w h c G =
+            let same : O .delivered z .codewords w ≡ c = condition-three-unique w (O .delivered z .codewords w) c (O .delivered z .good w h) G in (
+              O .delivered z .count w h ∙ ap (differing (wordOf i q block w)) same,
+              (λ k l. O .delivered z .symbols k w l h ∙ ap (λ (word : List ℕ). getD word (q + k) 0) same),
+            )
 
 -- With a larger allowance the parameters pass as well.
 more-passes : (e i q s t : ℕ) (block before : List ℕ) → t ≤ e → Passed e i q s block before → Passed e i q t block before
@@ -140,12 +146,13 @@ module _ (e i q : ℕ) (frame before block : List ℕ) (v : Verdict) (O : Encode
       clear-accepted (decodeParameters e i q e (length received) (length out))
       (clear .0, (clear .1 .0, (clear .1 .1 .0, ((λ l. omega arith), ((λ n. clear .1 .1 .1 .1 .0 (λ x. n (same ∙ O .size ∙ x))), ((λ n. clear .1 .1 .1 .0 (λ x. n (size ∙ x))), tt))))))
 
-  -- A block altered in at most E symbols of each word decodes, with allowance E, to the original frame, and each count is the number
-  -- of symbols altered in that word.
+  -- A block altered in at most E symbols of each word decodes, with allowance E, to the original frame; each count is the number of
+  -- symbols altered in that word, the counts beyond the depth are zero, and the total is the sum of the counts.
   pub condition-two : (out : List ℕ) → length out ≡ length frame → (answer : Decoded) (counts : List ℕ) (total : ℕ) (after : List ℕ)
       → DecodeOutcome e i q e received out answer counts total after
       → (answer ≡ Delivered) × (after ≡ frame) × ((w : ℕ) → w < i → getD counts w 0 ≡ differing (wordOf i q block w) (wordOf i q received w))
-  condition-two out size answer counts total after P = (delivered-is answer zero, frames, counted)
+      × ((w : ℕ) → i ≤ w → getD counts w 0 ≡ 0) × (total ≡ sum counts)
+  condition-two out size answer counts total after P = (delivered-is answer zero, frames, counted, P .delivered zero .beyond, P .delivered zero .summed)
     where
       legal : Passed e i q e received out
       legal = passes out size
@@ -158,7 +165,7 @@ module _ (e i q : ℕ) (frame before block : List ℕ) (v : Verdict) (O : Encode
 
       facts : (w : ℕ) → w < i → (getD counts w 0 ≡ differing (wordOf i q received w) (wordOf i q block w))
           × ((k : ℕ) → k < information e - q → getD after (k * i + w) 0 ≡ getD (wordOf i q block w) (q + k) 0)
-      facts w h = condition-three-counts e i q e received out legal answer counts total after P zero w h (wordOf i q block w) (sent-good w h)
+      facts w h = condition-three-counts e i q e received out legal answer counts total after P zero .0 w h (wordOf i q block w) (sent-good w h)
 
       counted : (w : ℕ) → w < i → getD counts w 0 ≡ differing (wordOf i q block w) (wordOf i q received w)
       counted w h = facts w h .0 ∙ differing-symmetric (wordOf i q received w) (wordOf i q block w)

@@ -17,6 +17,7 @@ use Rattle.refusals.specs.Calls.{decodeParameters}
 use Rattle.refusals.specs.declared.Parameter.{Parameter}
 use Rattle.refusals.specs.declared.Verdict.{Verdict}
 use Rattle.refusals.specs.declared.Verdict.the-variants as verdict
+use Rattle.refusals.specs.declared.WordRefusal.{WordRefusal}
 use Rattle.refusals.specs.declared.WordRefusal.the-variants.{Parameters, NoCodeword}
 use Rattle.refusals.proofs.Orders.{Numbered, Clear, accepted-clear, not-different, first-passes}
 use Rattle.refusals.proofs.Verdicts.{parameter-nonzero, parameter-not-ten, stopped}
@@ -25,7 +26,7 @@ use Rattle.codewords.specs.Words.{Good, differing}
 use Rattle.reed_solomon.specs.declared.Decoded.{Decoded}
 use Rattle.reed_solomon.specs.declared.Decoded.the-variants.{Delivered, Refused}
 use Rattle.reed_solomon.specs.Blocks.{wordOf}
-use Rattle.reed_solomon.specs.Outcome.{Delivery, DecodeOutcome}
+use Rattle.reed_solomon.specs.Outcome.{Delivery, LowestLost, DecodeOutcome}
 use Rattle.reed_solomon.specs.DecoderWorking.{Fitting, HasCodeword, Repaired}
 use Rattle.reed_solomon.proofs.Interleaving.{place-below}
 
@@ -71,17 +72,30 @@ fitting e i q s block repaired frame size f =
 
 -- ---- the answers
 
-module _ (e i q s : ℕ) (block frame : List ℕ) where
-  pub same-outcome : (a b : Decoded) (c d : List ℕ) (t u : ℕ) (after : List ℕ) → a ≡ b → c ≡ d → t ≡ u
-      → DecodeOutcome e i q s block frame b d u after → DecodeOutcome e i q s block frame a c t after
-  same-outcome a b c d t u after p r x O =
-      subst (λ (y : Decoded). DecodeOutcome e i q s block frame y c t after) (sym p)
-      (subst (λ (y : List ℕ). DecodeOutcome e i q s block frame b y t after) (sym r)
-      (subst (λ (y : ℕ). DecodeOutcome e i q s block frame b d y after) (sym x) O))
+-- a list that holds every word repaired, and the report of them
+pub record AllGood (e i q s : ℕ) (block counts : List ℕ) (total : ℕ) : Type 0 where
+  pub repaired : List ℕ
+  pub delivery : Delivery e i q s block repaired counts total
+  pub room : length repaired ≡ 2040
+  pub size : length counts ≡ 8
 
-  pub refused-parameter : (v : Verdict) (p : Parameter) → v ≡ verdict.Refused p → FirstOf (decodeParameters e i q s (length block) (length frame)) (verdictNumber v)
-      → DecodeOutcome e i q s block frame (Refused (Parameters p)) (replicate 8 0) 0 frame
-  refused-parameter v p is f =
+-- a refusal's answer, with the report all zero
+abbrev pub Refusal : WordRefusal → Decoded → List ℕ → ℕ → Type 0
+Refusal refusal a c t = (a ≡ Refused refusal) × (t ≡ 0) × (c ≡ replicate 8 0)
+
+module _ (e i q s : ℕ) (block frame : List ℕ) where
+  refused-as : (r : WordRefusal) (a : Decoded) (c : List ℕ) (t : ℕ) (after : List ℕ) → Refusal r a c t → after ≡ frame
+      → DecodeOutcome e i q s block frame (Refused r) (replicate 8 0) 0 frame → DecodeOutcome e i q s block frame a c t after
+  refused-as r a c t after same untouched O =
+      subst (λ (x : Decoded). DecodeOutcome e i q s block frame x c t after) (sym (same .0))
+      (subst (λ (x : ℕ). DecodeOutcome e i q s block frame (Refused r) c x after) (sym (same .1))
+      (subst (λ (x : List ℕ). DecodeOutcome e i q s block frame (Refused r) x 0 after) (sym (same .2))
+      (subst (DecodeOutcome e i q s block frame (Refused r) (replicate 8 0) 0) (sym untouched) O)))
+
+  pub refuses-parameter : (a : Decoded) (c : List ℕ) (t : ℕ) (after : List ℕ) (v : Verdict) (p : Parameter) → v ≡ verdict.Refused p
+      → FirstOf (decodeParameters e i q s (length block) (length frame)) (verdictNumber v) → Refusal (Parameters p) a c t → after ≡ frame → DecodeOutcome e i q s block frame a c t after
+  refuses-parameter a c t after v p is f same untouched =
+      refused-as (Parameters p) a c t after same untouched
       record {
         number = stopped _ (decodeParameters e i q s (length block) (length frame)) v p is f;
         word = λ ten. absurd (parameter-not-ten p ten);
@@ -90,50 +104,41 @@ module _ (e i q s : ℕ) (block frame : List ℕ) where
         delivered = λ z. absurd (parameter-nonzero p z);
       }
 
-  module _ (f : FirstOf (decodeParameters e i q s (length block) (length frame)) 0) (words : ℕ) (counts : List ℕ) (total len : ℕ) (repaired : List ℕ)
-      (R : Repaired e i q s block words counts total len repaired) where
-    pub refused-word : words < i → DecodeOutcome e i q s block frame (Refused (NoCodeword words)) (replicate 8 0) 0 frame
-    refused-word h =
+  module _ (f : FirstOf (decodeParameters e i q s (length block) (length frame)) 0) where
+    pub refuses-word : (a : Decoded) (c : List ℕ) (t : ℕ) (after : List ℕ) (w : ℕ) → Refusal (NoCodeword w) a c t → after ≡ frame → LowestLost e i q s block w
+        → DecodeOutcome e i q s block frame a c t after
+    refuses-word a c t after w same untouched lowest =
+        refused-as (NoCodeword w) a c t after same untouched
         record {
           number = first-passes (decodeParameters e i q s (length block) (length frame)) 10 (decode-numbers e i q s (length block) (length frame)) f
-              (inl ((words, h, R .stopped h), refl));
-          word = λ ten. record { within = h; lost = R .stopped h; before = λ v l. (R .sofar .each v l .codeword, R .sofar .each v l .good) };
+              (inl ((w, lowest .within, lowest .lost), refl));
+          word = λ ten. lowest;
           size = (refl, refl);
           refused = λ n. (refl, refl, refl);
           delivered = λ z. absurd (omega arith);
         }
 
-    pub frame-within : len ≡ 2040 → length frame ≤ length repaired
-    frame-within room =
+  module _ (words : ℕ) (counts : List ℕ) (total len : ℕ) (repaired : List ℕ) (R : Repaired e i q s block words counts total len repaired) where
+    pub lowest-lost : words < i → LowestLost e i q s block words
+    lowest-lost h = record { within = h; lost = R .stopped h; before = λ v l. (R .sofar .each v l .codeword, R .sofar .each v l .good) }
+
+    pub frame-within : FirstOf (decodeParameters e i q s (length block) (length frame)) 0 → len ≡ 2040 → length frame ≤ length repaired
+    frame-within f room =
         let L : LegalBlock e i q s (length block) (length frame) = legal-block e i q s (length block) (length frame) f in
         omega (arith, R .size, L .room, frame-most e i q (L .words))
 
-    pub delivers : i ≤ words → len ≡ 2040 → (after : List ℕ) → after ≡ copiedOver (take (length frame) repaired) frame
-        → DecodeOutcome e i q s block frame Delivered counts total after
-    delivers h room after is =
+    -- every word is good, and the list holds them repaired
+    pub words-delivered : i ≤ words → Delivery e i q s block repaired counts total
+    words-delivered h =
         record {
-          number = first-passes (decodeParameters e i q s (length block) (length frame)) 0 (decode-numbers e i q s (length block) (length frame)) f
-              (inr ((λ l. l .2 (D .codewords (l .0)) (D .good (l .0) (l .1))), refl));
-          word = λ ten. absurd (omega arith);
-          size = (ap length is ∙ copied-length front frame, R .sofar .size);
-          refused = λ n. absurd (n refl);
-          delivered = λ z. D;
+          codewords = λ w. chosen w .0;
+          good = λ w l. chosen w .1 l .0;
+          symbols = λ k w m l. chosen w .1 l .1 k m;
+          count = λ w l. chosen w .1 l .2;
+          beyond = λ w l. R .sofar .beyond w (omega (arith, R .reached));
+          summed = R .sofar .summed;
         }
       where
-        L : LegalBlock e i q s (length block) (length frame)
-        L = legal-block e i q s (length block) (length frame) f
-
-        front : List ℕ
-        front = take (length frame) repaired
-
-        front-size : length front ≡ length frame
-        front-size = length-take-le (length frame) repaired (frame-within room)
-
-        at : (n : ℕ) → n < length frame → getD after n 0 ≡ getD repaired n 0
-        at n l =
-            ap (λ (list : List ℕ). getD list n 0) (is ∙ copied-fitting front frame (omega (arith, front-size))) ∙ List·getD-append front (drop (length front) frame) 0 n (omega (arith, front-size))
-            ∙ getD-take (length frame) repaired n 0 l
-
         each : (w : ℕ) → w < i → HasCodeword e i q s block w repaired (getD counts w 0)
         each w l = R .sofar .each w (omega arith)
 
@@ -146,13 +151,42 @@ module _ (e i q s : ℕ) (block frame : List ℕ) where
               | no n ↦ ([], λ l. absurd (n l))
             ]
 
-        D : Delivery e i q s block after counts total
-        D =
-            record {
-              codewords = λ w. chosen w .0;
-              good = λ w l. chosen w .1 l .0;
-              symbols = λ k w m l. at (k * i + w) (omega (arith, L .room, place-below i k (information e - q) w m l)) ∙ chosen w .1 l .1 k m;
-              count = λ w l. chosen w .1 l .2;
-              beyond = λ w l. R .sofar .beyond w (omega (arith, R .reached));
-              summed = R .sofar .summed;
-            }
+    abbrev pub all-good : i ≤ words → len ≡ 2040 → AllGood e i q s block counts total
+    all-good h room = record { repaired = repaired; delivery = words-delivered h; room = R .size ∙ room; size = R .sofar .size }
+
+  module _ (f : FirstOf (decodeParameters e i q s (length block) (length frame)) 0) (counts : List ℕ) (total : ℕ) (after : List ℕ) (A : AllGood e i q s block counts total)
+      (is : after ≡ copiedOver (take (length frame) (A .repaired)) frame) where
+    L : LegalBlock e i q s (length block) (length frame)
+    L = legal-block e i q s (length block) (length frame) f
+
+    abbrev front : List ℕ
+    front = take (length frame) (A .repaired)
+
+    front-size : length front ≡ length frame
+    front-size = length-take-le (length frame) (A .repaired) (omega (arith, A .room, L .room, frame-most e i q (L .words)))
+
+    at : (n : ℕ) → n < length frame → getD after n 0 ≡ getD (A .repaired) n 0
+    at n l =
+        ap (λ (list : List ℕ). getD list n 0) (is ∙ copied-fitting front frame (omega (arith, front-size)))
+        ∙ List·getD-append front (drop (length front) frame) 0 n (omega (arith, front-size)) ∙ getD-take (length frame) (A .repaired) n 0 l
+
+    -- the frame is the front of the repaired words
+    D : Delivery e i q s block after counts total
+    D = record {
+      codewords = A .delivery .codewords;
+      good = A .delivery .good;
+      symbols = λ k w m l. at (k * i + w) (omega (arith, L .room, place-below i k (information e - q) w m l)) ∙ A .delivery .symbols k w m l;
+      count = A .delivery .count;
+      beyond = A .delivery .beyond;
+      summed = A .delivery .summed;
+    }
+
+    pub delivers : DecodeOutcome e i q s block frame Delivered counts total after
+    delivers = record {
+      number = first-passes (decodeParameters e i q s (length block) (length frame)) 0 (decode-numbers e i q s (length block) (length frame)) f
+          (inr ((λ l. l .2 (D .codewords (l .0)) (D .good (l .0) (l .1))), refl));
+      word = λ ten. absurd (omega arith);
+      size = (ap length is ∙ copied-length front frame, A .size);
+      refused = λ n. absurd (n refl);
+      delivered = λ z. D;
+    }

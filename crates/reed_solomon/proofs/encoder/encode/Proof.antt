@@ -1,11 +1,21 @@
--- `encode` refuses as the shared checks do; else the block is coded, by what its parts ensure.
+-- `encode` refuses as the shared checks do; else the block is coded, by what its parts ensure. The two answers come first, so that a
+-- promise that is not kept is what a check names first.
+use mathlib.Core.Path.{refl}
 use native.Mathlib.Omega.{arith}
 use lib.ListN.{length}
-use Rattle.refusals.proofs.Legal.{LegalWords}
-use Rattle.reed_solomon.proofs.CodedBlocks.{verdict-legal, checks-room, encode-refuses, encode-accepts}
+use Rattle.refusals.proofs.Verdicts.{passed}
+use Rattle.reed_solomon.proofs.CodedBlocks.{EncodeLegal, encode-legal, checks-room, octets-known, checks-written, encode-refuses, encode-accepts}
 use borrow.Author.Needs.{needs}
 use Rattle.reed_solomon.proofs.encoder.encode.Statement.{statement}
 use Rattle.reed_solomon.proofs.encoder.encode.Tie as tie
+
+-- refused for a parameter
+returns : tie.Need-returns
+returns c = encode-refuses _ _ _ _ _ _ _ _ (c .before .verdict .given .1) (c .before .before .before .encode-parameters .ensures) refl
+
+-- accepted
+returns-2 : tie.Need-returns-2
+returns-2 c = encode-accepts _ _ _ _ _ _ (search passed) (search octets-known) (search checks-written) (search)
 
 encode-parameters-requires : tie.Need-encode-parameters-requires
 encode-parameters-requires c κs = search needs
@@ -13,31 +23,26 @@ encode-parameters-requires c κs = search needs
 enum-known-verdict : tie.Need-enum-known-verdict
 enum-known-verdict c = search needs
 
-returns : tie.Need-returns
-returns c = encode-refuses _ _ _ _ _ (c .before .before .before .encode-parameters .result) (c .before .before .before .encode-parameters .ensures) _ (c .before .verdict .given .1)
-
 enum-told : tie.Need-enum-told
 enum-told c = search needs
 
+legal : (c : tie.After-enum-told) → EncodeLegal (c .before .before .before .before .before .args .e) (c .before .before .before .before .before .args .depth) (c .before .before .before .before .before .args .fill) (length (c .before .before .before .before .before .args .frame .now)) (length (c .before .before .before .before .before .args .block .now))
+legal c = search (encode-legal, passed)
+
 table-of-requires : tie.Need-table-of-requires
-table-of-requires c κs = verdict-legal (c .before .before .before .before .before .args .e) (c .before .before .before .before .before .args .depth) (c .before .before .before .before .before .args .fill) (length (c .before .before .before .before .before .args .frame .now)) (length (c .before .before .before .before .before .args .block .now)) (c .before .before .encode-parameters .result) (c .enum-told .given .1) (c .before .before .encode-parameters .ensures) .words .strength
+table-of-requires c κs = legal c .words .strength
 
 rows-of-requires : tie.Need-rows-of-requires
-rows-of-requires c κs =
-    let legal : LegalWords _ _ _ = verdict-legal (c .before .before .before .before .before .before .before .args .e) (c .before .before .before .before .before .before .before .args .depth) (c .before .before .before .before .before .before .before .args .fill) (length (c .before .before .before .before .before .before .before .args .frame .now)) (length (c .before .before .before .before .before .before .before .args .block .now)) (c .before .before .before .before .encode-parameters .result) (c .before .before .enum-told .given .1) (c .before .before .before .before .encode-parameters .ensures) .words in
-    (omega (arith, legal .some), legal .deep)
+rows-of-requires c κs = (omega (arith, legal (c .before .before) .words .some), legal (c .before .before) .words .deep)
 
 copy-front-requires : tie.Need-copy-front-requires
 copy-front-requires c κs = search needs
 
 put-checks-requires : tie.Need-put-checks-requires
-put-checks-requires c κs = checks-room _ _ _ (c .before .before .before .before .before .before .before .before .before .before .before .before .before .args .frame .now) (c .before .before .before .before .before .before .before .before .before .before .before .before .before .args .block .now) _ (verdict-legal (c .before .before .before .before .before .before .before .before .before .before .before .before .before .args .e) (c .before .before .before .before .before .before .before .before .before .before .before .before .before .args .depth) (c .before .before .before .before .before .before .before .before .before .before .before .before .before .args .fill) (length (c .before .before .before .before .before .before .before .before .before .before .before .before .before .args .frame .now)) (length (c .before .before .before .before .before .before .before .before .before .before .before .before .before .args .block .now)) (c .before .before .before .before .before .before .before .before .before .before .encode-parameters .result) (c .before .before .before .before .before .before .before .before .enum-told .given .1) (c .before .before .before .before .before .before .before .before .before .before .encode-parameters .ensures)) (c .before .before .before .copy-front .ensures)
+put-checks-requires c κs = checks-room _ _ _ (c .before .before .before .before .before .before .before .before .before .before .before .before .before .args .frame .now) (c .before .before .before .before .before .before .before .before .before .before .before .before .before .args .block .now) _ (legal (c .before .before .before .before .before .before .before .before)) (c .before .before .before .copy-front .ensures)
 
 same-length : tie.Need-same-length
 same-length c = search needs
-
-returns-2 : tie.Need-returns-2
-returns-2 c = encode-accepts _ _ _ _ _ (c .before .before .before .before .before .before .before .before .before .before .before .before .before .encode-parameters .result) (c .before .before .before .before .before .before .before .before .before .before .before .before .before .encode-parameters .ensures) _ _ _ _ (c .before .before .before .before .before .before .before .before .before .before .before .enum-told .given .1) (c .before .before .before .before .before .before .before .before .before .before .table-of .ensures) (c .before .before .before .before .before .before .before .before .rows-of .ensures) (c .before .before .before .before .before .before .copy-front .ensures) (c .before .before .put-checks .ensures) (λ m. omega (arith, c .before .before .before .before .before .before .before .before .before .before .before .before .before .before .before .shared-slice-known .given m))
 
 pub encode-spec : {M : Type 1} → statement M
 encode-spec =
