@@ -110,15 +110,19 @@ module _ (e i q : ℕ) (flag : Bool) (frame before : List ℕ) (v : Verdict) (ma
         decode-passes e i q s t (length received) (length out) (length block) (same ∙ O .size ∙ size) receives
 
   -- A transmitted block, altered in at most E symbols of each word and with the marker's wrong bits within the tolerance, is delivered
-  -- with allowance E as the frame, and each count is the number of symbols altered in that word.
+  -- with allowance E as the frame; each count is the number of symbols altered in that word, the counts beyond the depth are zero, and the
+  -- total is their sum.
   pub altered-received : (t : ℕ) → t ≤ 3 → (received out : List ℕ) → length received ≡ length marked → length out ≡ length frame → wrongBits received 0 ≤ t
       → ((w : ℕ) → w < i → differing (wordOf i q (opened flag marked) w) (wordOf i q (opened flag received) w) ≤ e)
       → (answer : Received) (counts : List ℕ) (total : ℕ) (after : List ℕ) → ReceiveOutcome e i q e t flag received out answer counts total after
       → (answer ≡ Delivered) × (after ≡ frame) × ((w : ℕ) → w < i → getD counts w 0 ≡ differing (wordOf i q (opened flag marked) w) (wordOf i q (opened flag received) w))
+      × ((w : ℕ) → i ≤ w → getD counts w 0 ≡ 0) × (total ≡ sum counts)
   altered-received t few received out same room fits near answer counts total after R = (
     A .same ∙ ap wordStage (two .0),
     two .1,
     (λ w h. two .2 w h ∙ sym (ap (λ (list : List ℕ). differing (wordOf i q list w) (wordOf i q (opened flag received) w)) opened-is)),
+    two .3,
+    two .4,
   )
     where
       A : AsDecode e i q e (opened flag received) out answer counts total after
