@@ -2,3 +2,4 @@
 pub mod Texts
 pub mod Settled
 pub mod Report
+pub mod Printed

@@ -1,8 +1,8 @@
 -- The texts of an input's pieces, one after the other, are the report of the input, and an input has one report.
-use mathlib.Core.Path.{_≡_, refl, sym, ap, ap₂, subst, _∙_}
+use mathlib.Core.Path.{_≡_, refl, sym, ap, ap₂, _∙_}
 use mathlib.Core.Bool.{cond}
 use mathlib.Core.List.{List, [], _∷_, _++_}
-use Prim.Native.Nat.{ℕ, zero, suc, _+_, _*_, _/_, _%_, _-_, min, _≤_, _<_}
+use Prim.Native.Nat.{ℕ, zero, suc, _*_, _%_, _-_, min, _≤_, _<_}
 use native.Mathlib.Decide.{ℕ-discrete}
 use native.Mathlib.Omega.{arith}
 use lib.Dec.{ltb}
@@ -11,8 +11,8 @@ use lib.Seq.{take-at}
 use Rattle.report_lines.specs.declared.ReportLine.the-variants.{Short, End}
 use Rattle.report_lines.specs.declared.Text.{Text}
 use Rattle.report_lines.specs.Lines.{decimalWithin, lineOf, closingOf}
-use Rattle.report_lines.specs.Text.{Holds, ClosingOutcome}
-use Rattle.report_pieces.specs.Pieces.{BlockReported, PieceOutcome}
+use Rattle.report_lines.specs.Text.{Holds}
+use Rattle.report_pieces.specs.Pieces.{PieceOutcome}
 use Rattle.report_pieces.specs.Report.{pieceOf, blocksOf, contentOf, joined, Report}
 use Rattle.report_pieces.proofs.Settled.{block-settled}
 
@@ -30,7 +30,7 @@ last-piece input = omega (arith, piece-length input (blocksOf input))
 
 -- ---- the octets of texts
 
-held-content : (text : Text) (content : List ℕ) → Holds text content → contentOf text ≡ content
+pub held-content : (text : Text) (content : List ℕ) → Holds text content → contentOf text ≡ content
 held-content text content held =
     ap₂ {C = List ℕ} (λ (n : ℕ) (l : List ℕ). take n l) (held .size) (held .octets) ∙ take-at content _ (length content) refl
 
