@@ -142,11 +142,11 @@ module _ (e i q : ℕ) (frame before after : List ℕ) where
         accepted = λ n. absurd (parameter-nonzero p n);
       }
 
-  pub encode-accepts : FirstOf (encodeOrder e i q (length frame) (length before)) 0 → ((m : ℕ) → getD frame m 0 < 256) → (W : ChecksWritten e i frame after)
-      → W .put ≡ copiedOver frame before → EncodeOutcome e i q frame before Accepted after
-  encode-accepts first octets W copied = record {
-    number = first;
+  pub encode-accepts : (v : Verdict) → v ≡ Accepted → FirstOf (encodeOrder e i q (length frame) (length before)) 0 → ((m : ℕ) → getD frame m 0 < 256) → (W : ChecksWritten e i frame after)
+      → W .put ≡ copiedOver frame before → EncodeOutcome e i q frame before v after
+  encode-accepts v accepts first octets W copied = record {
+    number = subst (FirstOf (encodeOrder e i q (length frame) (length before))) (sym (ap verdictNumber accepts)) first;
     size = W .checks .size ∙ put-size frame before (W .put) copied;
-    refused = λ n. absurd (n refl);
+    refused = λ n. absurd (n (ap verdictNumber accepts));
     accepted = λ n. block-coded e i q frame before (W .put) after (W .rows) (W .table) (encode-legal e i q (length frame) (length before) first) (W .listed) (W .done) copied (W .checks) octets;
   }

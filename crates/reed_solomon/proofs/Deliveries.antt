@@ -25,7 +25,7 @@ use Rattle.refusals.proofs.Legal.{LegalWords, legal-words}
 use Rattle.codewords.specs.Words.{Good, differing}
 use Rattle.reed_solomon.specs.declared.Decoded.{Decoded}
 use Rattle.reed_solomon.specs.declared.Decoded.the-variants.{Delivered, Refused}
-use Rattle.reed_solomon.specs.Blocks.{wordOf}
+use Rattle.reed_solomon.specs.Blocks.{wordOf, sum}
 use Rattle.reed_solomon.specs.Outcome.{Delivery, LowestLost, DecodeOutcome}
 use Rattle.reed_solomon.specs.DecoderWorking.{Fitting, HasCodeword, Repaired}
 use Rattle.reed_solomon.proofs.Interleaving.{place-below}
@@ -72,10 +72,10 @@ fitting e i q s block repaired frame size f =
 
 -- ---- the answers
 
--- a list that holds every word repaired, and the report of them
-pub record AllGood (e i q s : ℕ) (block counts : List ℕ) (total : ℕ) : Type 0 where
+-- a list that holds every word repaired, and the counts of them
+pub record AllGood (e i q s : ℕ) (block counts : List ℕ) : Type 0 where
   pub repaired : List ℕ
-  pub delivery : Delivery e i q s block repaired counts total
+  pub delivery : Delivery e i q s block repaired counts (sum counts)
   pub room : length repaired ≡ 2040
   pub size : length counts ≡ 8
 
@@ -128,7 +128,7 @@ module _ (e i q s : ℕ) (block frame : List ℕ) where
         omega (arith, R .size, L .room, frame-most e i q (L .words))
 
     -- every word is good, and the list holds them repaired
-    pub words-delivered : i ≤ words → Delivery e i q s block repaired counts total
+    pub words-delivered : i ≤ words → Delivery e i q s block repaired counts (sum counts)
     words-delivered h =
         record {
           codewords = λ w. chosen w .0;
@@ -136,7 +136,7 @@ module _ (e i q s : ℕ) (block frame : List ℕ) where
           symbols = λ k w m l. chosen w .1 l .1 k m;
           count = λ w l. chosen w .1 l .2;
           beyond = λ w l. R .sofar .beyond w (omega (arith, R .reached));
-          summed = R .sofar .summed;
+          summed = refl;
         }
       where
         each : (w : ℕ) → w < i → HasCodeword e i q s block w repaired (getD counts w 0)
@@ -151,11 +151,11 @@ module _ (e i q s : ℕ) (block frame : List ℕ) where
               | no n ↦ ([], λ l. absurd (n l))
             ]
 
-    abbrev pub all-good : i ≤ words → len ≡ 2040 → AllGood e i q s block counts total
+    abbrev pub all-good : i ≤ words → len ≡ 2040 → AllGood e i q s block counts
     all-good h room = record { repaired = repaired; delivery = words-delivered h; room = R .size ∙ room; size = R .sofar .size }
 
-  module _ (f : FirstOf (decodeParameters e i q s (length block) (length frame)) 0) (counts : List ℕ) (total : ℕ) (after : List ℕ) (A : AllGood e i q s block counts total)
-      (is : after ≡ copiedOver (take (length frame) (A .repaired)) frame) where
+  module _ (f : FirstOf (decodeParameters e i q s (length block) (length frame)) 0) (counts : List ℕ) (total : ℕ) (after : List ℕ) (A : AllGood e i q s block counts)
+      (summed : total ≡ sum counts) (is : after ≡ copiedOver (take (length frame) (A .repaired)) frame) where
     L : LegalBlock e i q s (length block) (length frame)
     L = legal-block e i q s (length block) (length frame) f
 
@@ -178,7 +178,7 @@ module _ (e i q s : ℕ) (block frame : List ℕ) where
       symbols = λ k w m l. at (k * i + w) (omega (arith, L .room, place-below i k (information e - q) w m l)) ∙ A .delivery .symbols k w m l;
       count = A .delivery .count;
       beyond = A .delivery .beyond;
-      summed = A .delivery .summed;
+      summed = summed;
     }
 
     pub delivers : DecodeOutcome e i q s block frame Delivered counts total after

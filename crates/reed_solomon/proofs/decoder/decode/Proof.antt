@@ -20,7 +20,7 @@ returns-2 c = refuses-word _ _ _ _ _ _ (search passed) _ _ _ _ _ (c .refused2 .e
 
 -- delivered
 returns-3 : tie.Need-returns-3
-returns-3 c = delivers _ _ _ _ _ _ (search passed) _ _ _ (search all-good) (search)
+returns-3 c = delivers _ _ _ _ _ _ (search passed) _ _ _ (search all-good) (search) (search)
 
 decode-parameters-requires : tie.Need-decode-parameters-requires
 decode-parameters-requires c κs = search needs

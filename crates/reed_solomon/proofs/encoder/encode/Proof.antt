@@ -15,7 +15,7 @@ returns c = encode-refuses _ _ _ _ _ _ _ _ (c .before .verdict .given .1) (c .be
 
 -- accepted
 returns-2 : tie.Need-returns-2
-returns-2 c = encode-accepts _ _ _ _ _ _ (search passed) (search octets-known) (search checks-written) (search)
+returns-2 c = encode-accepts _ _ _ _ _ _ _ (search) (search passed) (search octets-known) (search checks-written) (search)
 
 encode-parameters-requires : tie.Need-encode-parameters-requires
 encode-parameters-requires c κs = search needs
