@@ -1,3 +1,4 @@
--- What each exported call answers by the answer of the call beneath, and that it is settled.
+-- What each exported call answers by the answer of the call beneath, that it is settled, and what a refusal leaves as it was.
 pub mod Answers
 pub mod Settled
+pub mod Kept

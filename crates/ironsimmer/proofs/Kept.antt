@@ -1,0 +1,53 @@
+-- What the header says of a refusal: all that C lent to be written holds what it held. Of any outcome that the contracts permit.
+use mathlib.Core.Path.{_≡_, _∙_}
+use mathlib.Core.Logic.{_≢_}
+use mathlib.Core.List.{List}
+use Prim.Native.Nat.{ℕ}
+use Rattle.reed_solomon.specs.declared.Decoded.{Decoded}
+use Rattle.reed_solomon.specs.declared.Decoded.the-variants as decoded
+use Rattle.reed_solomon.specs.Outcome.{decodedNumber, decodedValue}
+use Rattle.chain.specs.declared.Received.{Received}
+use Rattle.chain.specs.declared.Received.the-variants as received
+use Rattle.chain.specs.Outcome.{receivedNumber, receivedValue}
+use Rattle.ironsimmer.specs.Exported.{code, EncodeCall, RandomiseCall, TransmitCall, DecodeCall, ReceiveCall, MarkerCall, SearchCall, ConvolveCall}
+use Rattle.ironsimmer.proofs.Answers.{word-nonzero, stage-nonzero}
+
+-- An answer other than 0 is one of a refusal.
+decoded-refused : (a : Decoded) → code (decodedNumber a) (decodedValue a) ≢ 0 → decodedNumber a ≢ 0
+decoded-refused decoded.Delivered n = n
+decoded-refused (decoded.Refused r) n = word-nonzero r
+
+received-refused : (a : Received) → code (receivedNumber a) (receivedValue a) ≢ 0 → receivedNumber a ≢ 0
+received-refused received.Delivered n = n
+received-refused (received.Refused s) n = stage-nonzero s
+
+-- The eight calls that can refuse: an answer other than 0 leaves every buffer, count and report as it was.
+pub record KeptOnARefusal : Type 0 where
+  pub encode : (e i q : ℕ) (frame before : List ℕ) (answer : ℕ) (after : List ℕ) → EncodeCall e i q frame before answer after → answer ≢ 0 → after ≡ before
+  pub decode : (e i q s : ℕ) (block before reported : List ℕ) (answer : ℕ) (after report : List ℕ) → DecodeCall e i q s block before reported answer after report
+      → answer ≢ 0 → (after ≡ before) × (report ≡ reported)
+  pub randomise : (before : List ℕ) (answer : ℕ) (after : List ℕ) → RandomiseCall before answer after → answer ≢ 0 → after ≡ before
+  pub marker : (tolerance : ℕ) (octets : List ℕ) (before answer after : ℕ) → MarkerCall tolerance octets before answer after → answer ≢ 0 → after ≡ before
+  pub search : (tolerance : ℕ) (stream : List ℕ) (start budget : ℕ) (before : List ℕ) (answer : ℕ) (after : List ℕ)
+      → SearchCall tolerance stream start budget before answer after → answer ≢ 0 → after ≡ before
+  pub convolve : (rate : ℕ) (octets before : List ℕ) (counted answer : ℕ) (after : List ℕ) (count : ℕ) → ConvolveCall rate octets before counted answer after count
+      → answer ≢ 0 → (after ≡ before) × (count ≡ counted)
+  pub transmit : (e i q randomised : ℕ) (frame before : List ℕ) (answer : ℕ) (after : List ℕ) → TransmitCall e i q randomised frame before answer after
+      → answer ≢ 0 → after ≡ before
+  pub receive : (e i q s t randomised : ℕ) (marked before reported : List ℕ) (answer : ℕ) (after report : List ℕ)
+      → ReceiveCall e i q s t randomised marked before reported answer after report → answer ≢ 0 → (after ≡ before) × (report ≡ reported)
+
+pub kept-on-a-refusal : KeptOnARefusal
+kept-on-a-refusal =
+    record {
+      encode = λ e i q frame before answer after C n. C .outcome .refused (λ z. n (C .coded ∙ z));
+      decode = λ e i q s block before reported answer after report C n.
+          let refuses : decodedNumber (C .answered) ≢ 0 = decoded-refused (C .answered) (λ z. n (C .coded ∙ z)) in (C .outcome .refused refuses .0, C .lent .refused refuses);
+      randomise = λ before answer after C n. C .outcome .refused (λ z. n (C .coded ∙ z));
+      marker = λ tolerance octets before answer after C n. C .lent .refused (λ z. n (C .accepted z));
+      search = λ tolerance stream start budget before answer after C n. C .reported .lent .refused (λ z. n (C .reported .coded ∙ z));
+      convolve = λ rate octets before counted answer after count C n. (C .outcome .refused (λ z. n (C .coded ∙ z)), C .lent .refused (λ z. n (C .coded ∙ z)));
+      transmit = λ e i q randomised frame before answer after C n. C .outcome .refused (λ z. n (C .coded ∙ z));
+      receive = λ e i q s t randomised marked before reported answer after report C n.
+          let refuses : receivedNumber (C .answered) ≢ 0 = received-refused (C .answered) (λ z. n (C .coded ∙ z)) in (C .outcome .refused refuses .0, C .lent .refused refuses);
+    }
