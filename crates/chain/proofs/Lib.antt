@@ -5,3 +5,4 @@ pub mod Receptions
 pub mod Stages
 pub mod Settled
 pub mod Conditions
+pub mod Bursts

@@ -13,7 +13,8 @@ use Rattle.refusals.specs.Numbers.{verdictNumber}
 use Rattle.refusals.specs.declared.Verdict.{Verdict}
 use Rattle.refusals.specs.declared.Verdict.the-variants.{Accepted}
 use Rattle.refusals.proofs.Orders.{first-unique}
-use Rattle.marker.specs.Place.{marker, bitAt, wrongAmong, wrongBits}
+use Rattle.octets.specs.Bits.{bitAt}
+use Rattle.marker.specs.Place.{marker, wrongAmong, wrongBits}
 use Rattle.randomiser.specs.Sequence.{addedFrom, randomised}
 use Rattle.randomiser.specs.Outcome.{RandomiseOutcome}
 use Rattle.randomiser.proofs.Theorems.{twice-gives-back}

@@ -17,4 +17,5 @@ pub mod Corrections
 pub mod EnoughRoots
 pub mod RootCount
 pub mod LineWords
+pub mod ZeroWords
 pub mod Codewords

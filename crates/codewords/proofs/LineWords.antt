@@ -1,13 +1,13 @@
 -- Words as they stand on the line and after conversion: conversion adds up, can be undone, and keeps how many symbols differ; the laws of that number.
 use mathlib.Core.Path.{_≡_, refl, sym, ap, ap₂, _∙_, subst}
-use mathlib.Core.Logic.{_≢_}
+use mathlib.Core.Logic.{_≢_, _⊎_, inl, inr}
 use mathlib.Core.Bool.{Bool, true, false}
 use mathlib.Core.List.{List, [], _∷_, _++_, map}
-use Prim.Native.Nat.{ℕ, zero, suc, _+_, _≤_}
+use Prim.Native.Nat.{ℕ, zero, suc, _+_, _≤_, _<_}
 use native.Mathlib.Omega.{arith}
 use native.Mathlib.Decide.{ℕ-discrete}
 use lib.Dec.{T, eqb, eqb→eq, eqb-refl}
-use lib.ListN.{length, replicate}
+use lib.ListN.{length, getD, replicate}
 use Rattle.field.specs.Field.{_⊕_}
 use Rattle.field.specs.Line.{toLine, toConventional}
 use Rattle.field.proofs.Sum.{⊕-self}
@@ -145,6 +145,37 @@ differing-at-most [] [] h = omega arith
 differing-at-most [] (b ∷ v) h = absurd (omega arith)
 differing-at-most (a ∷ u) [] h = absurd (omega arith)
 differing-at-most (a ∷ u) (b ∷ v) h = omega (arith, unless-le (eqb a b), differing-at-most u v (omega arith))
+
+-- words that agree outside a run of n symbols from the a-th on differ in at most n
+pub differing-run : (u v : List ℕ) (a n : ℕ) → length u ≡ length v → ((k : ℕ) → k < length u → (k < a) ⊎ (a + n ≤ k) → getD u k 0 ≡ getD v k 0)
+    → differing u v ≤ n
+unfolding differing
+differing-run [] [] a n h same = omega arith
+differing-run [] (y ∷ v) a n h same = absurd (omega arith)
+differing-run (x ∷ u) [] a n h same = absurd (omega arith)
+differing-run (x ∷ u) (y ∷ v) (suc a) n h same =
+    omega (arith, unless-equal x y (same 0 (omega arith) (inl (omega arith))), differing-run u v a n (omega arith) (λ k l o. same (suc k) (omega arith) (later k o)))
+  where
+    later : (k : ℕ) → (k < a) ⊎ (a + n ≤ k) → (suc k < suc a) ⊎ (suc a + n ≤ suc k)
+    later k (inl l) = inl (omega arith)
+    later k (inr l) = inr (omega arith)
+differing-run (x ∷ u) (y ∷ v) zero zero h same =
+    omega (arith, unless-equal x y (same 0 (omega arith) (inr (omega arith))), differing-run u v 0 0 (omega arith) (λ k l o. same (suc k) (omega arith) (inr (omega arith))))
+differing-run (x ∷ u) (y ∷ v) zero (suc n) h same =
+    omega (arith, unless-le (eqb x y), differing-run u v 0 n (omega arith) (λ k l o. same (suc k) (omega arith) (later k o)))
+  where
+    later : (k : ℕ) → (k < 0) ⊎ (0 + n ≤ k) → (suc k < 0) ⊎ (0 + suc n ≤ suc k)
+    later k (inl l) = absurd (omega arith)
+    later k (inr l) = inr (omega arith)
+
+-- and words whose first n symbols all differ, in at least n
+pub differing-first : (u v : List ℕ) (n : ℕ) → n ≤ length u → n ≤ length v → ((k : ℕ) → k < n → getD u k 0 ≢ getD v k 0) → n ≤ differing u v
+unfolding differing
+differing-first u v zero h l apart = omega arith
+differing-first [] v (suc n) h l apart = absurd (omega arith)
+differing-first (x ∷ u) [] (suc n) h l apart = absurd (omega arith)
+differing-first (x ∷ u) (y ∷ v) (suc n) h l apart =
+    omega (arith, unless-different x y (apart 0 (omega arith)), differing-first u v n (omega arith) (omega arith) (λ k m. apart (suc k) (omega arith)))
 
 -- ---- it is the number of nonzero symbols of the sum, before and after conversion
 

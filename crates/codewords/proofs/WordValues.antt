@@ -3,7 +3,7 @@ use mathlib.Core.Path.{_≡_, refl, sym, ap, ap₂, _∙_}
 use mathlib.Core.List.{List, [], _∷_, _++_}
 use Prim.Native.Nat.{ℕ, zero, suc, _+_, _<_}
 use native.Mathlib.Omega.{arith}
-use lib.ListN.{length, replicate, length-append, length-replicate}
+use lib.ListN.{length, getD, replicate, length-append, length-replicate}
 use Rattle.field.specs.Field.{_⊕_, _·_, pow}
 use Rattle.field.proofs.Sum.{⊕-zero, zero-⊕, ⊕-octet}
 use Rattle.field.proofs.Product.{·-lt, ·-mod, zero-·, ·-zero, ring, ·-one, ·-one-octet}
@@ -78,6 +78,12 @@ length-snoc w c = length-append w (c ∷ []) ∙ omega arith
 pub octets-++ : (u v : List ℕ) → Octets u → Octets v → Octets (u ++ v)
 octets-++ [] v o q = q
 octets-++ (c ∷ u) v o q = (o .0, octets-++ u v (o .1) q)
+
+-- each of them is below 256, and so is what is read behind them
+pub octet-at : (word : List ℕ) → Octets word → (k : ℕ) → getD word k 0 < 256
+octet-at [] o k = omega arith
+octet-at (c ∷ word) o zero = o .0
+octet-at (c ∷ word) o (suc k) = octet-at word (o .1) k
 
 pub octets-rest : (u v : List ℕ) → Octets (u ++ v) → Octets v
 octets-rest [] v o = o

@@ -1,6 +1,6 @@
 -- Every case of the table holds: (A) to (I) by computing; (J) and (K) because zeros are a codeword, the one within 16 symbols, and because
 -- encode and decode are settled.
-use mathlib.Core.Path.{_≡_, refl, sym, ap, _∙_, subst}
+use mathlib.Core.Path.{_≡_, refl, sym, ap, _∙_}
 use mathlib.Core.Logic.{inl, inr}
 use mathlib.Core.List.{List, [], _∷_}
 use Prim.Native.Nat.{ℕ, zero, suc, _+_, _*_, _≤_, _<_}
@@ -10,23 +10,25 @@ use Rattle.field.specs.Field.{_⊕_, _·_, shiftAndAdd, timesAlpha, whereSet}
 use Rattle.field.specs.Line.{toLine, toConventional}
 use Rattle.randomiser.specs.Sequence.{sequenceOctet, numberFrom, bitFrom, bitAfter}
 use Rattle.convolution.specs.Coder.{symbolsAt}
-use Rattle.refusals.specs.Calls.{encodeOrder, decodeParameters}
+use Rattle.refusals.specs.Order.{FirstOf}
+use Rattle.refusals.specs.Calls.{strength, depth, fill, decodeParameters}
 use Rattle.refusals.specs.declared.Verdict.the-variants.{Accepted}
 use Rattle.refusals.specs.declared.WordRefusal.the-variants.{NoCodeword}
 use Rattle.refusals.proofs.Orders.{clear-accepted}
-use Rattle.codewords.specs.Words.{Codeword, Good, differing, withFill}
+use Rattle.codewords.specs.Words.{Good, differing}
 use Rattle.codewords.proofs.Codewords.{good-unique, good-more-allowance}
 use Rattle.codewords.proofs.LineWords.{differing-front}
+use Rattle.codewords.proofs.ZeroWords.{zeroWord, zero-good}
 use Rattle.words.proofs.Arrays.{zero-at}
 use Rattle.reed_solomon.specs.declared.Decoded.{Decoded}
 use Rattle.reed_solomon.specs.declared.Decoded.the-variants.{Delivered, Refused}
 use Rattle.reed_solomon.specs.Blocks.{sentFrom, wordOf, sum}
-use Rattle.reed_solomon.specs.Outcome.{Coded, EncodeOutcome, Delivery, Lost, DecodeOutcome}
+use Rattle.reed_solomon.specs.Outcome.{EncodeOutcome, Delivery, Lost, DecodeOutcome}
 use Rattle.reed_solomon.proofs.Settled.{encode-settled}
 use Rattle.reed_solomon.proofs.DecodeSettled.{decode-settled}
 use Rattle.reed_solomon.proofs.Deliverable.{Passed, all-found, some-lost}
+use Rattle.reed_solomon.proofs.ZeroBlocks.{zeros-encoded}
 use Rattle.examples.specs.Table.{Encodes, Decodes, AllHold, zeroBlock, changedBlock, cases}
-use Rattle.examples.proofs.ZeroWords.{zeroWord, zero-codeword, zero-good}
 
 -- ---- (J)
 
@@ -35,28 +37,12 @@ one-word : (P : ℕ → Type 0) → P 0 → (w : ℕ) → w < 1 → P w
 one-word P p zero h = p
 one-word P p (suc w) h = absurd (omega arith)
 
-zero-sent : sentFrom 1 zeroBlock 0 0 33 ≡ replicate 33 0
-unfolding sentFrom
-zero-sent = refl
-
-zero-coded : Coded 16 1 222 (0 ∷ []) zeroBlock
-zero-coded =
-    record {
-      information = refl;
-      words = one-word (λ w. Codeword 16 (wordOf 1 222 zeroBlock w))
-          (subst (λ (sent : List ℕ). Codeword 16 (withFill 222 sent)) (sym zero-sent) (zero-codeword 222 33 16 refl));
-    }
+zero-legal : FirstOf (strength 16 ∷ depth 1 ∷ fill 16 222 ∷ []) 0
+zero-legal = clear-accepted (strength 16 ∷ depth 1 ∷ fill 16 222 ∷ []) ((λ not. not (inr (inl refl))), ((λ not. not (inl refl)), ((λ over. omega arith), tt)))
 
 module _ (before : List ℕ) (size : length before ≡ 33) where
   zero-encoded : EncodeOutcome 16 1 222 (0 ∷ []) before Accepted zeroBlock
-  zero-encoded =
-      record {
-        number = clear-accepted (encodeOrder 16 1 222 1 (length before))
-            ((λ not. not (inr (inl refl))), ((λ not. not (inl refl)), ((λ over. omega arith), ((λ not. not refl), ((λ not. not size), tt)))));
-        size = sym size;
-        refused = λ not. absurd (not refl);
-        accepted = λ z. zero-coded;
-      }
+  zero-encoded = zeros-encoded 16 1 222 zero-legal before size
 
   zero-encodes : Encodes 16 1 222 (0 ∷ []) before Accepted zeroBlock
   zero-encodes =

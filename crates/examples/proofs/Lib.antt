@@ -1,3 +1,2 @@
--- The zero codeword, and the proof of the table.
-pub mod ZeroWords
+-- The proof of the table.
 pub mod Examples

@@ -8,9 +8,11 @@ use native.Mathlib.Omega.{arith}
 use lib.Bits.{bitXor}
 use lib.Count.{ones}
 use lib.ListN.{getD, length}
-use Rattle.marker.specs.Place.{bitAt, wrongBits, NoneFits, remaining}
+use Rattle.octets.specs.Bits.{bitAt}
+use Rattle.octets.proofs.Bits.{bit-of-octet}
+use Rattle.marker.specs.Place.{wrongBits, NoneFits, remaining}
 use Rattle.marker.specs.Outcome.{FoundFirst, NoneLeft, BudgetSpent}
-use Rattle.marker.proofs.Word.{word, word-none, word-more, word-split, word-small, word-wrong, bit-small, bit-of-octet}
+use Rattle.marker.proofs.Word.{word, word-none, word-more, word-split, word-small, word-wrong, bit-small}
 
 -- The first bit of the octet in which the start lies: from it on bits enter the window.
 abbrev pub base : ℕ → ℕ

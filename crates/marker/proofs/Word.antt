@@ -8,7 +8,9 @@ use native.Mathlib.Omega.{arith}
 use lib.Bits.{bitXor, differ, xor-step}
 use lib.Count.{ones, ones-step}
 use lib.ListN.{getD}
-use Rattle.marker.specs.Place.{bitAt, marker, wrongAmong, wrongBits}
+use Rattle.octets.specs.Bits.{bitAt}
+use Rattle.octets.proofs.Bits.{bit-of-octet}
+use Rattle.marker.specs.Place.{marker, wrongAmong, wrongBits}
 
 -- The n bits from p on.
 unfoldable pub word : ℕ → List ℕ → ℕ → ℕ
@@ -40,13 +42,6 @@ word-split m (suc n) s p =
     rw (add-suc m n, at) (omega (arith, word-split m n s p, more))
 
 -- ---- octets
-
--- The place of bit b of octet i.
-pub bit-of-octet : (s : List ℕ) (i b : ℕ) → b < 8 → bitAt s (i * 8 + b) ≡ getD s i 0 / 2 ^ (7 - b) % 2
-bit-of-octet s i b h =
-    let octet : (i * 8 + b) / 8 ≡ i = omega arith in
-    let bit : (i * 8 + b) % 8 ≡ b = omega arith in
-    rw (octet, bit)
 
 -- The first j bits of an octet are what is left of it without the others.
 octet-front : (s : List ℕ) (i j : ℕ) → getD s i 0 < 256 → j ≤ 8 → word j s (i * 8) ≡ getD s i 0 / 2 ^ (8 - j)

@@ -1,16 +1,13 @@
 -- Places of a stream, and the wrong bits at each (document 01, "Marker, chains and search").
 use mathlib.Core.List.{List, [], _∷_}
-use Prim.Native.Nat.{ℕ, zero, suc, _+_, _-_, _*_, _/_, _%_, _^_, _≤_, _<_}
+use Prim.Native.Nat.{ℕ, zero, suc, _+_, _-_, _*_, _≤_, _<_}
 use lib.Bits.{differ}
-use lib.ListN.{getD, length}
+use lib.ListN.{length}
+use Rattle.octets.specs.Bits.{bitAt}
 
 -- The marker is 1A CF FC 1D.
 abbrev pub marker : List ℕ
 marker = 0x1A ∷ 0xCF ∷ 0xFC ∷ 0x1D ∷ []
-
--- Bit p of a stream, whose octets are read top bit first.
-abbrev pub bitAt : List ℕ → ℕ → ℕ
-bitAt stream p = getD stream (p / 8) 0 / 2 ^ (7 - p % 8) % 2
 
 -- How many of the first n bits from place p on differ from the marker's (`differ` is 1 for two bits that differ, and 0 for equal ones).
 unfoldable pub wrongAmong : ℕ → List ℕ → ℕ → ℕ

@@ -1,7 +1,7 @@
 -- A register that holds eight bits of the sequence goes on with the bits after them.
 use mathlib.Core.Path.{_≡_, refl, sym, ap, ap₂, _∙_}
-use Prim.Native.Nat.{ℕ, zero, suc, _+_, _*_, _%_, _<_}
-use native.Mathlib.Nat.{zero-add, suc-add, add-assoc}
+use Prim.Native.Nat.{ℕ, zero, suc, _+_, _*_, _%_, _^_, _<_}
+use native.Mathlib.Nat.{zero-add, suc-add, add-assoc, pow-suc}
 use native.Mathlib.Omega.{arith}
 use Rattle.randomiser.specs.Sequence.{bitAfter, bitOf, bitFrom, numberFrom, eightOn, sequenceOctet}
 
@@ -18,6 +18,16 @@ unfolding bitFrom
 bit-small register n =
     small (bitOf register 0) (bitOf register 1) (bitOf register 2) (bitOf register 3) (bitOf register 4) (bitOf register 5) (bitOf register 6) (bitOf register 7) n
     (omega arith) (omega arith) (omega arith) (omega arith) (omega arith) (omega arith) (omega arith) (omega arith)
+
+-- so n bits make a number below 2^n, and eight an octet
+number-small : (register p n : ℕ) → numberFrom register p n < 2 ^ n
+unfolding numberFrom
+number-small register p zero = omega arith
+number-small register p (suc n) = omega (arith, number-small register p n, bit-small register (p + n), pow-suc 2 n)
+
+pub octet-small : (n : ℕ) → sequenceOctet n < 256
+unfolding sequenceOctet
+octet-small n = number-small 0xFF (8 * n) 8
 
 -- ---- the sequence goes on from any eight of its bits
 

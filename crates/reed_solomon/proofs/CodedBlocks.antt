@@ -1,5 +1,5 @@
 -- A block that holds the frame and then the rows of checks, interleaved, is coded; so encode keeps what it promises.
-use mathlib.Core.Path.{_≡_, refl, sym, ap, ap₂, _∙_, subst}
+use mathlib.Core.Path.{_≡_, sym, ap, ap₂, _∙_, subst}
 use mathlib.Core.List.{List, [], _++_}
 use Prim.Native.Nat.{ℕ, _+_, _-_, _*_, _≤_, _<_}
 use native.Mathlib.Nat.{mul-le-mul-right}
@@ -150,3 +150,10 @@ module _ (e i q : ℕ) (frame before after : List ℕ) where
     refused = λ n. absurd (n (ap verdictNumber accepts));
     accepted = λ n. block-coded e i q frame before (W .put) after (W .rows) (W .table) (encode-legal e i q (length frame) (length before) first) (W .listed) (W .done) copied (W .checks) octets;
   }
+
+-- What an accepted outcome says of the numbers and the lengths.
+pub outcome-legal : (e i q : ℕ) (frame before block : List ℕ) (v : Verdict) → EncodeOutcome e i q frame before v block → verdictNumber v ≡ 0
+    → EncodeLegal e i q (length frame) (length block)
+outcome-legal e i q frame before block v O accepted =
+    subst (EncodeLegal e i q (length frame)) (sym (O .size))
+    (encode-legal e i q (length frame) (length before) (subst (FirstOf (encodeOrder e i q (length frame) (length before))) accepted (O .number)))

@@ -3,11 +3,11 @@ use mathlib.Core.Path.{_≡_, sym, ap, _∙_, subst}
 use mathlib.Core.Logic.{_↔_}
 use mathlib.Core.List.{List}
 use Prim.Native.Nat.{ℕ, _+_, _-_, _*_, _/_, _%_, _≤_, _<_}
-use native.Mathlib.Nat.{div-add-mod', mod-lt, div-lt-iff-lt-mul, zero-add}
+use native.Mathlib.Nat.{div-add-mod', mod-lt, div-lt-iff-lt-mul}
 use native.Mathlib.Omega.{arith}
 use native.Mathlib.Decide.{decLt}
 use lib.ListN.{length, getD, replicate, length-replicate}
-use lib.Seq.{take-at, getD-take, getD-append-add, ext-getD}
+use lib.Seq.{take-at, getD-take, ext-getD}
 use Rattle.refusals.specs.Order.{FirstOf}
 use Rattle.refusals.specs.Sizes.{information}
 use Rattle.refusals.specs.Numbers.{verdictNumber}
@@ -21,7 +21,7 @@ use Rattle.reed_solomon.specs.declared.Decoded.{Decoded}
 use Rattle.reed_solomon.specs.declared.Decoded.the-variants.{Delivered}
 use Rattle.reed_solomon.specs.Blocks.{wordOf, sentFrom, sum}
 use Rattle.reed_solomon.specs.Outcome.{Coded, EncodeOutcome, Delivery, DecodeOutcome, decodedNumber, decodedValue}
-use Rattle.reed_solomon.proofs.Interleaving.{sent-at}
+use Rattle.reed_solomon.proofs.Interleaving.{word-at}
 use Rattle.reed_solomon.proofs.Deliveries.{LegalBlock, legal-block, decode-numbers}
 use Rattle.reed_solomon.proofs.CodedBlocks.{encode-numbers}
 use Rattle.reed_solomon.proofs.Deliverable.{Passed, Order, delivered-is, all-found, accepted-passed, number-is, same-counts, same-total, same-frame}
@@ -170,17 +170,11 @@ module _ (e i q : ℕ) (frame before block : List ℕ) (v : Verdict) (O : Encode
       counted : (w : ℕ) → w < i → getD counts w 0 ≡ differing (wordOf i q block w) (wordOf i q received w)
       counted w h = facts w h .0 ∙ differing-symmetric (wordOf i q received w) (wordOf i q block w)
 
-      -- symbol k of word w is octet k i + w of the block
-      symbol : (w k : ℕ) → k < information e - q → getD (wordOf i q block w) (q + k) 0 ≡ getD block (k * i + w) 0
-      symbol w k l =
-          ap (λ (n : ℕ). getD (wordOf i q block w) (n + k) 0) (sym (length-replicate q 0)) ∙ getD-append-add (replicate q 0) (sentFrom i block w 0 (255 - q)) k 0
-          ∙ sent-at i block w 0 (255 - q) k (omega arith) ∙ ap (λ (n : ℕ). getD block (n * i + w) 0) (zero-add k)
-
       frames : after ≡ frame
       frames =
           ext-getD 0 after frame (P .size .0 ∙ size)
           (λ p h. let back : p / i * i + p % i ≡ p = div-add-mod' p i in
           let w : p % i < i = mod-lt p (L .words .some) in
           let k : p / i < information e - q = div-lt-iff-lt-mul (L .words .some) .1 (omega (arith, P .size .0, L .room)) in
-          subst (λ (x : ℕ). getD after x 0 ≡ getD block x 0) back (facts (p % i) w .1 (p / i) k ∙ symbol (p % i) (p / i) k)
+          subst (λ (x : ℕ). getD after x 0 ≡ getD block x 0) back (facts (p % i) w .1 (p / i) k ∙ word-at i q block (p % i) (p / i) (omega (arith, k)))
           ∙ sym (getD-take (length frame) block p 0 (omega (arith, P .size .0, size))) ∙ ap (λ (list : List ℕ). getD list p 0) (coded .information))

@@ -5,10 +5,10 @@ use Prim.Native.Nat.{ℕ, zero, suc, _+_, _-_, _*_, _/_, _%_, _≤_, _<_}
 use native.Mathlib.Nat.{add-zero, zero-add, add-suc, suc-add, add-comm, mod-eq-of-lt, mul-le-mul-right, mul-add-mod-self-right, add-mul-div-right, div-eq-of-lt}
 use native.Mathlib.Decide.{decLt}
 use native.Mathlib.Omega.{arith}
-use lib.ListN.{length, take, getD}
-use lib.Seq.{getD-take, ext-getD}
+use lib.ListN.{length, take, getD, replicate, length-replicate}
+use lib.Seq.{getD-take, getD-append-add, ext-getD}
 use Rattle.codewords.specs.Words.{Octets}
-use Rattle.reed_solomon.specs.Blocks.{sentFrom}
+use Rattle.reed_solomon.specs.Blocks.{sentFrom, wordOf}
 
 -- ---- places
 
@@ -70,6 +70,12 @@ unfolding sentFrom
 sent-at i block w k zero j h = absurd (omega arith)
 sent-at i block w k (suc n) zero h = ap (λ (m : ℕ). getD block (m * i + w) 0) (sym (add-zero k))
 sent-at i block w k (suc n) (suc j) h = sent-at i block w (suc k) n j (omega arith) ∙ ap (λ (m : ℕ). getD block (m * i + w) 0) (omega arith)
+
+-- octet k i + w is symbol q + k of word w with its fill
+pub word-at : (i q : ℕ) (block : List ℕ) (w k : ℕ) → k < 255 - q → getD (wordOf i q block w) (q + k) 0 ≡ getD block (k * i + w) 0
+word-at i q block w k h =
+    ap (λ (n : ℕ). getD (wordOf i q block w) (n + k) 0) (sym (length-replicate q 0)) ∙ getD-append-add (replicate q 0) (sentFrom i block w 0 (255 - q)) k 0
+    ∙ sent-at i block w 0 (255 - q) k h ∙ ap (λ (n : ℕ). getD block (n * i + w) 0) (zero-add k)
 
 -- a word is known by its octets
 pub sent-is : (i : ℕ) (block : List ℕ) (w k n : ℕ) (word : List ℕ) → length word ≡ n → ((j : ℕ) → j < n → getD block ((k + j) * i + w) 0 ≡ getD word j 0)

@@ -13,3 +13,7 @@ pub mod Deliverable
 pub mod DecodeSettled
 pub mod Conditions
 pub mod Fakes
+pub mod ZeroBlocks
+pub mod Bursts
+pub mod AlteredBlocks
+pub mod LongerBursts

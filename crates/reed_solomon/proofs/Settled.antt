@@ -2,11 +2,11 @@
 use mathlib.Core.Path.{_≡_, sym, ap, _∙_, subst}
 use mathlib.Core.List.{List}
 use Prim.Native.Nat.{ℕ, _+_, _-_, _*_, _/_, _%_, _<_}
-use native.Mathlib.Nat.{mod-lt, div-add-mod', zero-add}
+use native.Mathlib.Nat.{mod-lt, div-add-mod'}
 use native.Mathlib.Decide.{ℕ-discrete}
 use native.Mathlib.Omega.{arith}
 use lib.ListN.{length, take, getD, replicate, length-replicate}
-use lib.Seq.{take-at, take-append-add, getD-append-add, ext-getD}
+use lib.Seq.{take-at, take-append-add, ext-getD}
 use Rattle.refusals.specs.Order.{FirstOf}
 use Rattle.refusals.specs.Sizes.{information}
 use Rattle.refusals.specs.Numbers.{verdictNumber}
@@ -17,7 +17,7 @@ use Rattle.codewords.specs.Words.{withFill}
 use Rattle.codewords.proofs.Codewords.{checks-unique}
 use Rattle.reed_solomon.specs.Blocks.{sentFrom, wordOf}
 use Rattle.reed_solomon.specs.Outcome.{Coded, EncodeOutcome}
-use Rattle.reed_solomon.proofs.Interleaving.{symbol-below, sent-length, sent-at, sent-++, sent-information}
+use Rattle.reed_solomon.proofs.Interleaving.{symbol-below, sent-length, word-at, sent-++, sent-information}
 use Rattle.reed_solomon.proofs.CodedBlocks.{EncodeLegal, encode-legal}
 
 -- ---- two coded blocks of one frame are equal
@@ -33,8 +33,8 @@ module _ (e i q : ℕ) (frame : List ℕ) (size : ℕ) (legal : EncodeLegal e i 
   sent = omega (arith, legal .words .filled, legal .words .strong)
 
   -- the information symbols of a word, with the fill, are those of the frame
-  front : (block : List ℕ) → Coded e i q frame block → (w : ℕ) → w < i → take (255 - 2 * e) (wordOf i q block w) ≡ withFill q (sentFrom i frame w 0 symbols)
-  front block C w h =
+  pub word-information : (block : List ℕ) → Coded e i q frame block → (w : ℕ) → w < i → take (255 - 2 * e) (wordOf i q block w) ≡ withFill q (sentFrom i frame w 0 symbols)
+  word-information block C w h =
       ap (λ (n : ℕ). take n (wordOf i q block w)) full
       ∙ take-append-add (replicate q 0) (sentFrom i block w 0 (255 - q)) symbols
       ∙ ap (withFill q) (ap (λ (n : ℕ). take symbols (sentFrom i block w 0 n)) sent
@@ -45,15 +45,10 @@ module _ (e i q : ℕ) (frame : List ℕ) (size : ℕ) (legal : EncodeLegal e i 
   module _ (a b : List ℕ) (A : Coded e i q frame a) (B : Coded e i q frame b) where
     same-word : (w : ℕ) → w < i → wordOf i q a w ≡ wordOf i q b w
     same-word w h =
-        checks-unique e (wordOf i q a w) (wordOf i q b w) (omega (arith, legal .words .strong)) (A .words w h) (B .words w h) (front a A w h ∙ sym (front b B w h))
-
-    octet-of : (block : List ℕ) (k w : ℕ) → k < 255 - q → getD block (k * i + w) 0 ≡ getD (wordOf i q block w) (length (replicate {A = ℕ} q 0) + k) 0
-    octet-of block k w h =
-        ap (λ (n : ℕ). getD block (n * i + w) 0) (sym (zero-add k)) ∙ sym (sent-at i block w 0 (255 - q) k h)
-        ∙ sym (getD-append-add (replicate q 0) (sentFrom i block w 0 (255 - q)) k 0)
+        checks-unique e (wordOf i q a w) (wordOf i q b w) (omega (arith, legal .words .strong)) (A .words w h) (B .words w h) (word-information a A w h ∙ sym (word-information b B w h))
 
     same-octet : (k w : ℕ) → k < 255 - q → w < i → getD a (k * i + w) 0 ≡ getD b (k * i + w) 0
-    same-octet k w h l = octet-of a k w h ∙ ap (λ (word : List ℕ). getD word (length (replicate {A = ℕ} q 0) + k) 0) (same-word w l) ∙ sym (octet-of b k w h)
+    same-octet k w h l = sym (word-at i q a w k h) ∙ ap (λ (word : List ℕ). getD word (q + k) 0) (same-word w l) ∙ word-at i q b w k h
 
     pub coded-unique : length a ≡ size → length b ≡ size → a ≡ b
     coded-unique long short =

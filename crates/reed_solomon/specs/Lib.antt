@@ -1,5 +1,6 @@
--- Blocks of interleaved words, what encode and decode promise, and what they do on the way.
+-- Blocks of interleaved words, what encode and decode promise, bursts, and what the coder does on the way.
 pub mod Blocks
 pub mod Outcome
+pub mod Bursts
 pub mod EncoderWorking
 pub mod DecoderWorking

@@ -5,6 +5,7 @@
 
 mod blocks;
 mod both;
+mod bursts;
 mod chain;
 mod convolution;
 mod draw;

@@ -1,0 +1,109 @@
+-- The burst figure through receive: a marked block whose block part was altered only within the figure, and its marker within the tolerance, is received as the frame.
+use mathlib.Core.Path.{_≡_, refl, sym, ap, _∙_, subst}
+use mathlib.Core.Bool.{Bool, true, false}
+use mathlib.Core.List.{List, [], _∷_}
+use Prim.Native.Nat.{ℕ, zero, suc, _+_, _-_, _/_, _≤_, _<_}
+use native.Mathlib.Nat.{mul-le-mul}
+use native.Mathlib.Omega.{arith}
+use lib.Bits.{bitXor, xor-lt}
+use lib.ListN.{length, drop, getD, length-drop}
+use Rattle.refusals.specs.Order.{FirstOf}
+use Rattle.refusals.specs.Numbers.{verdictNumber}
+use Rattle.refusals.specs.Calls.{transmitOrder}
+use Rattle.refusals.specs.declared.Verdict.{Verdict}
+use Rattle.codewords.specs.Words.{Octets, differing}
+use Rattle.marker.specs.Place.{wrongBits}
+use Rattle.randomiser.specs.Sequence.{sequenceOctet, addedFrom}
+use Rattle.randomiser.proofs.Registers.{octet-small}
+use Rattle.reed_solomon.specs.Blocks.{wordOf, sum}
+use Rattle.reed_solomon.specs.Bursts.{burstSymbols, burstBits, SymbolBurst, BitBurst, Corrected}
+use Rattle.reed_solomon.proofs.CodedBlocks.{EncodeLegal, encode-legal}
+use Rattle.reed_solomon.proofs.Bursts.{word-differs, bits-in-symbols, coded-octets, corrected}
+use Rattle.chain.specs.declared.Received.{Received}
+use Rattle.chain.specs.declared.Received.the-variants.{Delivered}
+use Rattle.chain.specs.Outcome.{randomisedIf, opened, Transmitted, TransmitOutcome, ReceiveOutcome}
+use Rattle.chain.proofs.Opening.{randomised-length}
+use Rattle.chain.proofs.Transmissions.{block-passes}
+use Rattle.chain.proofs.Settled.{block-size}
+use Rattle.chain.proofs.Conditions.{altered-received}
+
+-- ---- randomised, a burst is where it was
+
+added-octets : (n : ℕ) (block : List ℕ) → Octets block → Octets (addedFrom n block)
+unfolding addedFrom
+added-octets n [] o = tt
+added-octets n (octet ∷ block) o = (xor-lt 8 octet (sequenceOctet n) (o .0) (octet-small n), added-octets (suc n) block (o .1))
+
+randomised-octets : (flag : Bool) (block : List ℕ) → Octets block → Octets (randomisedIf flag block)
+randomised-octets true block o = added-octets 0 block o
+randomised-octets false block o = o
+
+-- the same is added to the same place of both
+added-same : (n : ℕ) (sent received : List ℕ) → length received ≡ length sent → (m : ℕ) → getD received m 0 ≡ getD sent m 0
+    → getD (addedFrom n received) m 0 ≡ getD (addedFrom n sent) m 0
+unfolding addedFrom
+added-same n [] [] h m same = refl
+added-same n [] (y ∷ received) h m same = absurd (omega arith)
+added-same n (x ∷ sent) [] h m same = absurd (omega arith)
+added-same n (x ∷ sent) (y ∷ received) h zero same = ap (λ (octet : ℕ). bitXor octet (sequenceOctet n)) same
+added-same n (x ∷ sent) (y ∷ received) h (suc m) same = added-same (suc n) sent received (omega arith) m same
+
+randomised-burst : (flag : Bool) (p n : ℕ) (sent received : List ℕ) → SymbolBurst p n sent received → SymbolBurst p n (randomisedIf flag sent) (randomisedIf flag received)
+randomised-burst true p n sent received B =
+    record {
+      size = randomised-length true received ∙ B .size ∙ sym (randomised-length true sent);
+      same = λ m o. added-same 0 sent received (B .size) m (B .same m o);
+    }
+randomised-burst false p n sent received B = B
+
+-- ---- a transmitted block, received after a burst
+
+module _ (e i q : ℕ) (flag : Bool) (frame before : List ℕ) (v : Verdict) (marked : List ℕ) (O : TransmitOutcome e i q flag frame before v marked) (accepted : verdictNumber v ≡ 0)
+    (t : ℕ) (few : t ≤ 3) (received out : List ℕ) (room : length out ≡ length frame) (fits : wrongBits received 0 ≤ t)
+    (answer : Received) (counts : List ℕ) (total : ℕ) (after : List ℕ) (R : ReceiveOutcome e i q e t flag received out answer counts total after) where
+  T : Transmitted e i q flag frame marked
+  T = O .accepted accepted
+
+  long : length before ≡ length (T .block) + 4
+  long = block-size e i q flag frame before marked T (O .size)
+
+  legal : EncodeLegal e i q (length frame) (length (T .block))
+  legal =
+      encode-legal e i q (length frame) (length (T .block))
+      (block-passes e i q (length frame) (length before) (length (T .block)) long (subst (FirstOf (transmitOrder e i q (length frame) (length before))) accepted (O .number)))
+
+  -- the block part is not empty
+  positive : 1 ≤ length (T .block)
+  positive = omega (arith, legal .output, mul-le-mul one (legal .words .some))
+    where
+      one : 1 ≤ 255 - q
+      one = omega (arith, legal .words .filled)
+
+  whole : length (drop 4 received) ≡ length (drop 4 marked) → length received ≡ length marked
+  whole same = omega (arith, length-drop 4 received, length-drop 4 marked, O .size, long, positive)
+
+  -- A marked block that was altered only within E x I consecutive sent symbols after the marker is delivered and corrected.
+  pub burst-received : (p n : ℕ) → n ≤ burstSymbols e i → SymbolBurst p n (drop 4 marked) (drop 4 received)
+      → (answer ≡ Delivered) × Corrected e i q frame (opened flag marked) (opened flag received) counts total after
+  burst-received p n short B =
+      (two .0, corrected e i q frame (opened flag marked) (opened flag received) counts total after near (two .1) (two .2) (two .3) (two .4))
+    where
+      near : (w : ℕ) → w < i → differing (wordOf i q (opened flag marked) w) (wordOf i q (opened flag received) w) ≤ e
+      near =
+          word-differs e i q (legal .words .some) p n short (opened flag marked) (opened flag received) (randomised-burst flag p n (drop 4 marked) (drop 4 received) B)
+
+      two : (answer ≡ Delivered) × (after ≡ frame) × ((w : ℕ) → w < i → getD counts w 0 ≡ differing (wordOf i q (opened flag marked) w) (wordOf i q (opened flag received) w))
+          × ((w : ℕ) → i ≤ w → getD counts w 0 ≡ 0) × (total ≡ sum counts)
+      two = altered-received e i q flag frame before v marked O accepted t few received out (whole (B .size)) room fits near answer counts total after R
+
+  -- And one that was altered only within 8 x (E x I - 1) + 1 consecutive bits after the marker.
+  pub burst-bits-received : (p n : ℕ) → n ≤ burstBits e i → BitBurst p n (drop 4 marked) (drop 4 received)
+      → (answer ≡ Delivered) × Corrected e i q frame (opened flag marked) (opened flag received) counts total after
+  burst-bits-received p n short B =
+      burst-received (p / 8) (burstSymbols e i) (omega arith)
+      (bits-in-symbols p n (burstSymbols e i) (omega (arith, mul-le-mul (legal .words .weak) (legal .words .some))) short (drop 4 marked) (drop 4 received) sent B)
+    where
+      sent : Octets (drop 4 marked)
+      sent =
+          subst (λ (list : List ℕ). Octets (drop 4 list)) (sym (T .sent))
+          (randomised-octets flag (T .block) (coded-octets e i q frame (T .block) legal (T .coded)))
