@@ -1,13 +1,14 @@
 -- The burst figure: a received block that differs from the one sent only within a run of E x I symbols, or of 8 x (E x I - 1) + 1 bits, is corrected.
-use mathlib.Core.Path.{_≡_, sym, ap, _∙_, subst}
+use mathlib.Core.Path.{_≡_, refl, sym, ap, _∙_, subst}
 use mathlib.Core.Logic.{inl, inr}
-use mathlib.Core.List.{List}
+use mathlib.Core.List.{List, [], _∷_, map}
 use Prim.Native.Nat.{ℕ, suc, _+_, _-_, _*_, _/_, _%_, _^_, _≤_, _<_}
 use native.Mathlib.Nat.{mod-lt, div-add-mod', div-mul-le-self, lt-div-mul-add, mul-le-mul, mul-le-mul-right, zero-add}
 use native.Mathlib.Omega.{arith}
 use native.Mathlib.Decide.{decLt}
 use lib.ListN.{length, getD, replicate, List·getD-eq-default}
 use Rattle.octets.proofs.Bits.{bit-of-octet, same-bits}
+use Rattle.refusals.specs.Sizes.{depths}
 use Rattle.refusals.specs.Numbers.{verdictNumber}
 use Rattle.refusals.specs.declared.Verdict.{Verdict}
 use Rattle.codewords.specs.Words.{Octets, differing}
@@ -118,3 +119,8 @@ module _ (e i q : ℕ) (frame before block : List ℕ) (v : Verdict) (O : Encode
       burst-corrected (p / 8) (burstSymbols e i) (omega arith)
       (bits-in-symbols p n (burstSymbols e i) (omega (arith, mul-le-mul (legal .words .weak) (legal .words .some))) (omega arith) block received
       (coded-octets e i q frame block legal (O .accepted accepted)) B)
+
+-- The figures of docs/DATASHEET.md, for the depths in their order: of strength 16, symbols and bits, then of strength 8.
+pub figures-of-the-data-sheet : (map (burstSymbols 16) depths ≡ 16 ∷ 32 ∷ 48 ∷ 64 ∷ 80 ∷ 128 ∷ []) × (map (burstBits 16) depths ≡ 121 ∷ 249 ∷ 377 ∷ 505 ∷ 633 ∷ 1017 ∷ [])
+    × (map (burstSymbols 8) depths ≡ 8 ∷ 16 ∷ 24 ∷ 32 ∷ 40 ∷ 64 ∷ []) × (map (burstBits 8) depths ≡ 57 ∷ 121 ∷ 185 ∷ 249 ∷ 313 ∷ 505 ∷ [])
+figures-of-the-data-sheet = (refl, refl, refl, refl)
