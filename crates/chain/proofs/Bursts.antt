@@ -1,6 +1,7 @@
 -- The burst figure through receive: a marked block whose block part was altered only within the figure, and its marker within the tolerance, is received as the frame.
 use mathlib.Core.Path.{_≡_, refl, sym, ap, _∙_, subst}
 use mathlib.Core.Bool.{Bool, true, false}
+use mathlib.Core.Logic.{_↔_}
 use mathlib.Core.List.{List, [], _∷_}
 use Prim.Native.Nat.{ℕ, zero, suc, _+_, _-_, _/_, _≤_, _<_}
 use native.Mathlib.Nat.{mul-le-mul}
@@ -17,17 +18,18 @@ use Rattle.randomiser.specs.Sequence.{sequenceOctet, addedFrom}
 use Rattle.randomiser.proofs.Registers.{octet-small}
 use Rattle.reed_solomon.specs.Blocks.{wordOf, sum}
 use Rattle.reed_solomon.specs.Bursts.{burstSymbols, burstBits, SymbolBurst, BitBurst, Corrected}
+use Rattle.reed_solomon.proofs.Interleaving.{words-alike}
 use Rattle.reed_solomon.proofs.CodedBlocks.{EncodeLegal, encode-legal}
 use Rattle.reed_solomon.proofs.Bursts.{word-differs, bits-in-symbols, coded-octets, corrected}
 use Rattle.chain.specs.declared.Received.{Received}
 use Rattle.chain.specs.declared.Received.the-variants.{Delivered}
 use Rattle.chain.specs.Outcome.{randomisedIf, opened, Transmitted, TransmitOutcome, ReceiveOutcome}
-use Rattle.chain.proofs.Opening.{randomised-length}
+use Rattle.chain.proofs.Opening.{randomised-length, randomised-twice}
 use Rattle.chain.proofs.Transmissions.{block-passes}
 use Rattle.chain.proofs.Settled.{block-size}
 use Rattle.chain.proofs.Conditions.{altered-received}
 
--- ---- randomised, a burst is where it was
+-- ---- what the randomiser keeps
 
 added-octets : (n : ℕ) (block : List ℕ) → Octets block → Octets (addedFrom n block)
 unfolding addedFrom
@@ -39,22 +41,27 @@ randomised-octets true block o = added-octets 0 block o
 randomised-octets false block o = o
 
 -- the same is added to the same place of both
-added-same : (n : ℕ) (sent received : List ℕ) → length received ≡ length sent → (m : ℕ) → getD received m 0 ≡ getD sent m 0
-    → getD (addedFrom n received) m 0 ≡ getD (addedFrom n sent) m 0
+added-same : (n : ℕ) (a b : List ℕ) → length a ≡ length b → (m : ℕ) → getD a m 0 ≡ getD b m 0 → getD (addedFrom n a) m 0 ≡ getD (addedFrom n b) m 0
 unfolding addedFrom
 added-same n [] [] h m same = refl
-added-same n [] (y ∷ received) h m same = absurd (omega arith)
-added-same n (x ∷ sent) [] h m same = absurd (omega arith)
-added-same n (x ∷ sent) (y ∷ received) h zero same = ap (λ (octet : ℕ). bitXor octet (sequenceOctet n)) same
-added-same n (x ∷ sent) (y ∷ received) h (suc m) same = added-same (suc n) sent received (omega arith) m same
+added-same n [] (y ∷ b) h m same = absurd (omega arith)
+added-same n (x ∷ a) [] h m same = absurd (omega arith)
+added-same n (x ∷ a) (y ∷ b) h zero same = ap (λ (octet : ℕ). bitXor octet (sequenceOctet n)) same
+added-same n (x ∷ a) (y ∷ b) h (suc m) same = added-same (suc n) a b (omega arith) m same
 
-randomised-burst : (flag : Bool) (p n : ℕ) (sent received : List ℕ) → SymbolBurst p n sent received → SymbolBurst p n (randomisedIf flag sent) (randomisedIf flag received)
-randomised-burst true p n sent received B =
-    record {
-      size = randomised-length true received ∙ B .size ∙ sym (randomised-length true sent);
-      same = λ m o. added-same 0 sent received (B .size) m (B .same m o);
-    }
-randomised-burst false p n sent received B = B
+randomised-same : (flag : Bool) (a b : List ℕ) → length a ≡ length b → (m : ℕ) → getD a m 0 ≡ getD b m 0 → getD (randomisedIf flag a) m 0 ≡ getD (randomisedIf flag b) m 0
+randomised-same true a b h m same = added-same 0 a b h m same
+randomised-same false a b h m same = same
+
+-- so blocks differ where they differed
+randomised-alike : (flag : Bool) (a b : List ℕ) → length a ≡ length b → (m : ℕ) → (getD a m 0 ≡ getD b m 0) ↔ (getD (randomisedIf flag a) m 0 ≡ getD (randomisedIf flag b) m 0)
+randomised-alike flag a b h m = (
+  randomised-same flag a b h m,
+  λ same. back a ∙ randomised-same flag (randomisedIf flag a) (randomisedIf flag b) (randomised-length flag a ∙ h ∙ sym (randomised-length flag b)) m same ∙ sym (back b),
+)
+  where
+    back : (list : List ℕ) → getD list m 0 ≡ getD (randomisedIf flag (randomisedIf flag list)) m 0
+    back list = ap (λ (block : List ℕ). getD block m 0) (sym (randomised-twice flag list))
 
 -- ---- a transmitted block, received after a burst
 
@@ -84,21 +91,27 @@ module _ (e i q : ℕ) (flag : Bool) (frame before : List ℕ) (v : Verdict) (ma
 
   -- A marked block that was altered only within E x I consecutive sent symbols after the marker is delivered and corrected.
   pub burst-received : (p n : ℕ) → n ≤ burstSymbols e i → SymbolBurst p n (drop 4 marked) (drop 4 received)
-      → (answer ≡ Delivered) × Corrected e i q frame (opened flag marked) (opened flag received) counts total after
+      → (answer ≡ Delivered) × Corrected e i q frame (drop 4 marked) (drop 4 received) counts total after
   burst-received p n short B =
-      (two .0, corrected e i q frame (opened flag marked) (opened flag received) counts total after near (two .1) (two .2) (two .3) (two .4))
+      (two .0, corrected e i q frame (drop 4 marked) (drop 4 received) counts total after near (two .1) (λ w h. two .2 w h ∙ sym (opened-alike w)) (two .3) (two .4))
     where
-      near : (w : ℕ) → w < i → differing (wordOf i q (opened flag marked) w) (wordOf i q (opened flag received) w) ≤ e
-      near =
-          word-differs e i q (legal .words .some) p n short (opened flag marked) (opened flag received) (randomised-burst flag p n (drop 4 marked) (drop 4 received) B)
+      near : (w : ℕ) → w < i → differing (wordOf i q (drop 4 marked) w) (wordOf i q (drop 4 received) w) ≤ e
+      near = word-differs e i q (legal .words .some) p n short (drop 4 marked) (drop 4 received) B
+
+      -- as many symbols of a word differ before opening as after
+      opened-alike : (w : ℕ) → differing (wordOf i q (drop 4 marked) w) (wordOf i q (drop 4 received) w) ≡ differing (wordOf i q (opened flag marked) w) (wordOf i q (opened flag received) w)
+      opened-alike w =
+          words-alike i (drop 4 marked) (drop 4 received) (opened flag marked) (opened flag received) (randomised-alike flag (drop 4 marked) (drop 4 received) (sym (B .size))) w q
 
       two : (answer ≡ Delivered) × (after ≡ frame) × ((w : ℕ) → w < i → getD counts w 0 ≡ differing (wordOf i q (opened flag marked) w) (wordOf i q (opened flag received) w))
           × ((w : ℕ) → i ≤ w → getD counts w 0 ≡ 0) × (total ≡ sum counts)
-      two = altered-received e i q flag frame before v marked O accepted t few received out (whole (B .size)) room fits near answer counts total after R
+      two =
+          altered-received e i q flag frame before v marked O accepted t few received out (whole (B .size)) room fits
+          (λ w h. omega (arith, near w h, opened-alike w)) answer counts total after R
 
   -- And one that was altered only within 8 x (E x I - 1) + 1 consecutive bits after the marker.
   pub burst-bits-received : (p n : ℕ) → n ≤ burstBits e i → BitBurst p n (drop 4 marked) (drop 4 received)
-      → (answer ≡ Delivered) × Corrected e i q frame (opened flag marked) (opened flag received) counts total after
+      → (answer ≡ Delivered) × Corrected e i q frame (drop 4 marked) (drop 4 received) counts total after
   burst-bits-received p n short B =
       burst-received (p / 8) (burstSymbols e i) (omega arith)
       (bits-in-symbols p n (burstSymbols e i) (omega (arith, mul-le-mul (legal .words .weak) (legal .words .some))) short (drop 4 marked) (drop 4 received) sent B)

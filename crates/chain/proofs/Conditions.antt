@@ -34,7 +34,7 @@ use Rattle.chain.specs.declared.Received.{Received}
 use Rattle.chain.specs.declared.Received.the-variants.{Delivered}
 use Rattle.chain.specs.Outcome.{randomisedIf, opened, receivedNumber, wordStage, Transmitted, TransmitOutcome, AsDecode, ReceiveOutcome}
 use Rattle.chain.proofs.Opening.{randomised-length, opened-sent, marker-right}
-use Rattle.chain.proofs.Transmissions.{TransmitLegal, transmit-clear, transmit-legal, block-most, block-passes}
+use Rattle.chain.proofs.Transmissions.{TransmitLegal, transmit-clear, transmit-legal, block-passes}
 use Rattle.chain.proofs.Receptions.{decode-passes}
 use Rattle.chain.proofs.Settled.{block-size}
 
@@ -93,7 +93,7 @@ module _ (e i q : ℕ) (flag : Bool) (frame before : List ℕ) (v : Verdict) (ma
       }
 
   opened-is : opened flag marked ≡ block
-  opened-is = ap (opened flag) (T .sent) ∙ opened-sent flag block (omega (arith, size, legal .output, block-most e i q (legal .words)))
+  opened-is = ap (opened flag) (T .sent) ∙ opened-sent flag block
 
   module _ (s t : ℕ) (small : s ≤ e) (few : t ≤ 3) (received out : List ℕ) (same : length received ≡ length marked) (room : length out ≡ length frame) where
     -- what transmit accepted, receive accepts with the lengths exchanged

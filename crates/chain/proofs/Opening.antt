@@ -1,8 +1,8 @@
 -- The block in a marked block: randomised twice it is as it was, and the marker in front of it has no wrong bits.
-use mathlib.Core.Path.{_≡_, refl, sym, ap, _∙_}
+use mathlib.Core.Path.{_≡_, refl, sym, _∙_}
 use mathlib.Core.Bool.{Bool, true, false}
 use mathlib.Core.Logic.{inr}
-use mathlib.Core.List.{List, [], _∷_, _++_}
+use mathlib.Core.List.{List, _++_}
 use Prim.Native.Nat.{ℕ, zero, suc, _+_, _/_, _≤_, _<_}
 use native.Mathlib.Omega.{arith}
 use lib.ListN.{length, take}
@@ -11,13 +11,12 @@ use Rattle.refusals.specs.Order.{FirstOf}
 use Rattle.refusals.specs.Calls.{randomiseOrder}
 use Rattle.refusals.specs.Numbers.{verdictNumber}
 use Rattle.refusals.specs.declared.Verdict.{Verdict}
-use Rattle.refusals.specs.declared.Verdict.the-variants.{Accepted}
 use Rattle.refusals.proofs.Orders.{first-unique}
 use Rattle.octets.specs.Bits.{bitAt}
 use Rattle.marker.specs.Place.{marker, wrongAmong, wrongBits}
-use Rattle.randomiser.specs.Sequence.{addedFrom, randomised}
+use Rattle.randomiser.specs.Sequence.{randomised}
 use Rattle.randomiser.specs.Outcome.{RandomiseOutcome}
-use Rattle.randomiser.proofs.Theorems.{twice-gives-back}
+use Rattle.randomiser.proofs.Theorems.{added-twice, added-length}
 use Rattle.chain.specs.Outcome.{randomisedIf, opened}
 
 -- ---- randomised if asked
@@ -37,24 +36,14 @@ pub flag-unset : (flag : Bool) (block : List ℕ) → flag ≡ false → block �
 flag-unset false block e = refl
 flag-unset true block e = let z : _≡_ {A = ℕ} 0 1 = cc in absurd (omega arith)
 
-added-length : (n : ℕ) (block : List ℕ) → length (addedFrom n block) ≡ length block
-unfolding addedFrom
-added-length n [] = refl
-added-length n (octet ∷ block) = ap suc (added-length (suc n) block)
-
 pub randomised-length : (flag : Bool) (block : List ℕ) → length (randomisedIf flag block) ≡ length block
 randomised-length true block = added-length 0 block
 randomised-length false block = refl
 
-accepts : (block : List ℕ) → length block ≤ 2040 → RandomiseOutcome block Accepted (randomised block)
-accepts block h = record { number = within block h; refused = λ n. absurd (n refl); accepted = λ z. refl }
-
 -- Done twice with one flag, it gives the block back.
-pub randomised-twice : (flag : Bool) (block : List ℕ) → length block ≤ 2040 → randomisedIf flag (randomisedIf flag block) ≡ block
-randomised-twice true block h =
-    twice-gives-back block (randomised block) (randomised (randomised block)) Accepted Accepted (accepts block h)
-    (accepts (randomised block) (omega (arith, added-length 0 block))) refl refl
-randomised-twice false block h = refl
+pub randomised-twice : (flag : Bool) (block : List ℕ) → randomisedIf flag (randomisedIf flag block) ≡ block
+randomised-twice true block = added-twice 0 block
+randomised-twice false block = refl
 
 -- ---- the marker in front
 
@@ -77,5 +66,5 @@ marker-itself = refl
 pub marker-right : (block : List ℕ) → wrongBits (marker ++ block) 0 ≡ 0
 marker-right block = sym (wrong-in-front (marker ++ block)) ∙ marker-itself
 
-pub opened-sent : (flag : Bool) (block : List ℕ) → length block ≤ 2040 → opened flag (marker ++ randomisedIf flag block) ≡ block
+pub opened-sent : (flag : Bool) (block : List ℕ) → opened flag (marker ++ randomisedIf flag block) ≡ block
 opened-sent = randomised-twice

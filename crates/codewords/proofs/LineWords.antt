@@ -1,6 +1,6 @@
 -- Words as they stand on the line and after conversion: conversion adds up, can be undone, and keeps how many symbols differ; the laws of that number.
 use mathlib.Core.Path.{_≡_, refl, sym, ap, ap₂, _∙_, subst}
-use mathlib.Core.Logic.{_≢_, _⊎_, inl, inr}
+use mathlib.Core.Logic.{_≢_, _↔_, _⊎_, inl, inr}
 use mathlib.Core.Bool.{Bool, true, false}
 use mathlib.Core.List.{List, [], _∷_, _++_, map}
 use Prim.Native.Nat.{ℕ, zero, suc, _+_, _≤_, _<_}
@@ -72,6 +72,13 @@ unless-different a b n = test (eqb a b) (λ p. n (eqb→eq a b p))
     test : (t : Bool) → (T t → ⊥) → oneUnless t ≡ 1
     test true p = absurd (p tt)
     test false p = refl
+
+pub unless-alike : (a b c d : ℕ) → (a ≡ b) ↔ (c ≡ d) → oneUnless (eqb a b) ≡ oneUnless (eqb c d)
+unless-alike a b c d alike =
+    elim (ℕ-discrete a b) [
+      | yes p ↦ omega (arith, unless-equal a b p, unless-equal c d (alike .0 p))
+      | no n ↦ omega (arith, unless-different a b n, unless-different c d (λ p. n (alike .1 p)))
+    ]
 
 unless-le : (t : Bool) → oneUnless t ≤ 1
 unless-le true = omega arith

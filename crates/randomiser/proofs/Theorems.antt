@@ -62,7 +62,7 @@ register-moves-on before octet left small nonzero o still =
     ∙ equal-below heldStill (λ _. 0) 256 tt before small)
 
 -- Randomised twice, a block is as it was.
-added-twice : (n : ℕ) (block : List ℕ) → addedFrom n (addedFrom n block) ≡ block
+pub added-twice : (n : ℕ) (block : List ℕ) → addedFrom n (addedFrom n block) ≡ block
 unfolding addedFrom
 added-twice n [] = refl
 added-twice n (octet ∷ block) =
@@ -74,7 +74,7 @@ pub twice-gives-back : (block once twice : List ℕ) (v w : Verdict) → Randomi
 twice-gives-back block once twice v w o p a b = p .accepted b ∙ ap randomised (o .accepted a) ∙ added-twice 0 block
 
 -- A block with the sequence added, octet by octet.
-added-length : (m : ℕ) (block : List ℕ) → length (addedFrom m block) ≡ length block
+pub added-length : (m : ℕ) (block : List ℕ) → length (addedFrom m block) ≡ length block
 unfolding addedFrom
 added-length m [] = refl
 added-length m (octet ∷ block) = ap suc (added-length (suc m) block)

@@ -1,5 +1,6 @@
 -- Places in a block and the words that it interleaves: octet k i + w is symbol k of word w, and a word is known by its octets.
 use mathlib.Core.Path.{_≡_, refl, sym, ap, ap₂, _∙_}
+use mathlib.Core.Logic.{_↔_}
 use mathlib.Core.List.{List, [], _∷_, _++_}
 use Prim.Native.Nat.{ℕ, zero, suc, _+_, _-_, _*_, _/_, _%_, _≤_, _<_}
 use native.Mathlib.Nat.{add-zero, zero-add, add-suc, suc-add, add-comm, mod-eq-of-lt, mul-le-mul-right, mul-add-mod-self-right, add-mul-div-right, div-eq-of-lt}
@@ -7,7 +8,8 @@ use native.Mathlib.Decide.{decLt}
 use native.Mathlib.Omega.{arith}
 use lib.ListN.{length, take, getD, replicate, length-replicate}
 use lib.Seq.{getD-take, getD-append-add, ext-getD}
-use Rattle.codewords.specs.Words.{Octets}
+use Rattle.codewords.specs.Words.{Octets, differing}
+use Rattle.codewords.proofs.LineWords.{unless-alike, differing-front}
 use Rattle.reed_solomon.specs.Blocks.{sentFrom, wordOf}
 
 -- ---- places
@@ -76,6 +78,18 @@ pub word-at : (i q : ℕ) (block : List ℕ) (w k : ℕ) → k < 255 - q → get
 word-at i q block w k h =
     ap (λ (n : ℕ). getD (wordOf i q block w) (n + k) 0) (sym (length-replicate q 0)) ∙ getD-append-add (replicate q 0) (sentFrom i block w 0 (255 - q)) k 0
     ∙ sent-at i block w 0 (255 - q) k h ∙ ap (λ (n : ℕ). getD block (n * i + w) 0) (zero-add k)
+
+-- the words of two blocks that differ at the same places as two others differ in as many symbols
+module _ (i : ℕ) (a b c d : List ℕ) (alike : (m : ℕ) → (getD a m 0 ≡ getD b m 0) ↔ (getD c m 0 ≡ getD d m 0)) (w : ℕ) where
+  sent-alike : (k n : ℕ) → differing (sentFrom i a w k n) (sentFrom i b w k n) ≡ differing (sentFrom i c w k n) (sentFrom i d w k n)
+  unfolding differing sentFrom
+  sent-alike k zero = refl
+  sent-alike k (suc n) = ap₂ _+_ (unless-alike (getD a (k * i + w) 0) (getD b (k * i + w) 0) (getD c (k * i + w) 0) (getD d (k * i + w) 0) (alike (k * i + w))) (sent-alike (suc k) n)
+
+  pub words-alike : (q : ℕ) → differing (wordOf i q a w) (wordOf i q b w) ≡ differing (wordOf i q c w) (wordOf i q d w)
+  words-alike q =
+      differing-front (replicate q 0) (sentFrom i a w 0 (255 - q)) (sentFrom i b w 0 (255 - q)) ∙ sent-alike 0 (255 - q)
+      ∙ sym (differing-front (replicate q 0) (sentFrom i c w 0 (255 - q)) (sentFrom i d w 0 (255 - q)))
 
 -- a word is known by its octets
 pub sent-is : (i : ℕ) (block : List ℕ) (w k n : ℕ) (word : List ℕ) → length word ≡ n → ((j : ℕ) → j < n → getD block ((k + j) * i + w) 0 ≡ getD word j 0)
