@@ -1,83 +1,56 @@
 -- The burst figure through receive: a marked block whose block part was altered only within the figure, and its marker within the tolerance, is received as the frame.
-use mathlib.Core.Path.{_≡_, refl, sym, ap, _∙_, subst}
+use mathlib.Core.Path.{_≡_, refl, sym, _∙_, subst}
 use mathlib.Core.Bool.{Bool, true, false}
 use mathlib.Core.Logic.{_↔_}
-use mathlib.Core.List.{List, [], _∷_}
-use Prim.Native.Nat.{ℕ, zero, suc, _+_, _-_, _/_, _≤_, _<_}
+use mathlib.Core.List.{List}
+use Prim.Native.Nat.{ℕ, _+_, _-_, _/_, _≤_, _<_}
 use native.Mathlib.Nat.{mul-le-mul}
 use native.Mathlib.Omega.{arith}
-use lib.Bits.{bitXor, xor-lt}
 use lib.ListN.{length, drop, getD, length-drop}
-use Rattle.refusals.specs.Order.{FirstOf}
 use Rattle.refusals.specs.Numbers.{verdictNumber}
-use Rattle.refusals.specs.Calls.{transmitOrder}
 use Rattle.refusals.specs.declared.Verdict.{Verdict}
+use Rattle.refusals.specs.declared.Verdict.the-variants.{Accepted}
 use Rattle.codewords.specs.Words.{Octets, differing}
+use Rattle.codewords.proofs.WordValues.{changed-octets}
 use Rattle.marker.specs.Place.{wrongBits}
-use Rattle.randomiser.specs.Sequence.{sequenceOctet, addedFrom}
+use Rattle.randomiser.specs.Sequence.{sequenceOctet}
 use Rattle.randomiser.proofs.Registers.{octet-small}
+use Rattle.randomiser.proofs.Theorems.{added-changed, added-alike}
 use Rattle.reed_solomon.specs.Blocks.{wordOf, sum}
 use Rattle.reed_solomon.specs.Bursts.{burstSymbols, burstBits, SymbolBurst, BitBurst, Corrected}
 use Rattle.reed_solomon.proofs.Interleaving.{words-alike}
-use Rattle.reed_solomon.proofs.CodedBlocks.{EncodeLegal, encode-legal}
+use Rattle.reed_solomon.proofs.CodedBlocks.{EncodeLegal, outcome-legal}
 use Rattle.reed_solomon.proofs.Bursts.{word-differs, bits-in-symbols, coded-octets, corrected}
 use Rattle.chain.specs.declared.Received.{Received}
 use Rattle.chain.specs.declared.Received.the-variants.{Delivered}
 use Rattle.chain.specs.Outcome.{randomisedIf, opened, Transmitted, TransmitOutcome, ReceiveOutcome}
-use Rattle.chain.proofs.Opening.{randomised-length, randomised-twice}
-use Rattle.chain.proofs.Transmissions.{block-passes}
 use Rattle.chain.proofs.Settled.{block-size}
-use Rattle.chain.proofs.Conditions.{altered-received}
+use Rattle.chain.proofs.Conditions.{sent-encoded, altered-received}
 
 -- ---- what the randomiser keeps
 
-added-octets : (n : ℕ) (block : List ℕ) → Octets block → Octets (addedFrom n block)
-unfolding addedFrom
-added-octets n [] o = tt
-added-octets n (octet ∷ block) o = (xor-lt 8 octet (sequenceOctet n) (o .0) (octet-small n), added-octets (suc n) block (o .1))
-
 randomised-octets : (flag : Bool) (block : List ℕ) → Octets block → Octets (randomisedIf flag block)
-randomised-octets true block o = added-octets 0 block o
+randomised-octets true block o = subst Octets (sym (added-changed 0 block)) (changed-octets sequenceOctet octet-small 0 block o)
 randomised-octets false block o = o
 
--- the same is added to the same place of both
-added-same : (n : ℕ) (a b : List ℕ) → length a ≡ length b → (m : ℕ) → getD a m 0 ≡ getD b m 0 → getD (addedFrom n a) m 0 ≡ getD (addedFrom n b) m 0
-unfolding addedFrom
-added-same n [] [] h m same = refl
-added-same n [] (y ∷ b) h m same = absurd (omega arith)
-added-same n (x ∷ a) [] h m same = absurd (omega arith)
-added-same n (x ∷ a) (y ∷ b) h zero same = ap (λ (octet : ℕ). bitXor octet (sequenceOctet n)) same
-added-same n (x ∷ a) (y ∷ b) h (suc m) same = added-same (suc n) a b (omega arith) m same
-
-randomised-same : (flag : Bool) (a b : List ℕ) → length a ≡ length b → (m : ℕ) → getD a m 0 ≡ getD b m 0 → getD (randomisedIf flag a) m 0 ≡ getD (randomisedIf flag b) m 0
-randomised-same true a b h m same = added-same 0 a b h m same
-randomised-same false a b h m same = same
-
--- so blocks differ where they differed
+-- blocks differ where they differed
 randomised-alike : (flag : Bool) (a b : List ℕ) → length a ≡ length b → (m : ℕ) → (getD a m 0 ≡ getD b m 0) ↔ (getD (randomisedIf flag a) m 0 ≡ getD (randomisedIf flag b) m 0)
-randomised-alike flag a b h m = (
-  randomised-same flag a b h m,
-  λ same. back a ∙ randomised-same flag (randomisedIf flag a) (randomisedIf flag b) (randomised-length flag a ∙ h ∙ sym (randomised-length flag b)) m same ∙ sym (back b),
-)
-  where
-    back : (list : List ℕ) → getD list m 0 ≡ getD (randomisedIf flag (randomisedIf flag list)) m 0
-    back list = ap (λ (block : List ℕ). getD block m 0) (sym (randomised-twice flag list))
+randomised-alike true a b h m = added-alike 0 a b h m
+randomised-alike false a b h m = ((λ same. same), (λ same. same))
 
 -- ---- a transmitted block, received after a burst
 
 module _ (e i q : ℕ) (flag : Bool) (frame before : List ℕ) (v : Verdict) (marked : List ℕ) (O : TransmitOutcome e i q flag frame before v marked) (accepted : verdictNumber v ≡ 0)
     (t : ℕ) (few : t ≤ 3) (received out : List ℕ) (room : length out ≡ length frame) (fits : wrongBits received 0 ≤ t)
     (answer : Received) (counts : List ℕ) (total : ℕ) (after : List ℕ) (R : ReceiveOutcome e i q e t flag received out answer counts total after) where
-  T : Transmitted e i q flag frame marked
+  abbrev T : Transmitted e i q flag frame marked
   T = O .accepted accepted
 
   long : length before ≡ length (T .block) + 4
   long = block-size e i q flag frame before marked T (O .size)
 
   legal : EncodeLegal e i q (length frame) (length (T .block))
-  legal =
-      encode-legal e i q (length frame) (length (T .block))
-      (block-passes e i q (length frame) (length before) (length (T .block)) long (subst (FirstOf (transmitOrder e i q (length frame) (length before))) accepted (O .number)))
+  legal = outcome-legal e i q frame (T .block) (T .block) Accepted (sent-encoded e i q flag frame before v marked O accepted) refl
 
   -- the block part is not empty
   positive : 1 ≤ length (T .block)

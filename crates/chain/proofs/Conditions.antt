@@ -67,7 +67,7 @@ widened e i q s t block out answer counts total after more legal z O =
 -- ---- a transmitted block, received
 
 module _ (e i q : ℕ) (flag : Bool) (frame before : List ℕ) (v : Verdict) (marked : List ℕ) (O : TransmitOutcome e i q flag frame before v marked) (accepted : verdictNumber v ≡ 0) where
-  T : Transmitted e i q flag frame marked
+  abbrev T : Transmitted e i q flag frame marked
   T = O .accepted accepted
 
   abbrev block : List ℕ
@@ -83,8 +83,8 @@ module _ (e i q : ℕ) (flag : Bool) (frame before : List ℕ) (v : Verdict) (ma
   size = block-size e i q flag frame before marked T (O .size)
 
   -- the block that was sent is an outcome of encode, and opening gives it back
-  encoded : EncodeOutcome e i q frame block Accepted block
-  encoded =
+  pub sent-encoded : EncodeOutcome e i q frame block Accepted block
+  sent-encoded =
       record {
         number = block-passes e i q (length frame) (length before) (length block) size passes;
         size = refl;
@@ -134,7 +134,7 @@ module _ (e i q : ℕ) (flag : Bool) (frame before : List ℕ) (v : Verdict) (ma
       two : (A .answered ≡ decoded.Delivered) × (after ≡ frame) × ((w : ℕ) → w < i → getD counts w 0 ≡ differing (wordOf i q block w) (wordOf i q (opened flag received) w))
           × ((w : ℕ) → i ≤ w → getD counts w 0 ≡ 0) × (total ≡ sum counts)
       two =
-          condition-two e i q frame block block Accepted encoded refl (opened flag received) length-is
+          condition-two e i q frame block block Accepted sent-encoded refl (opened flag received) length-is
           (λ w h. subst (λ (list : List ℕ). differing (wordOf i q list w) (wordOf i q (opened flag received) w) ≤ e) opened-is (near w h)) out room (A .answered) counts total after (A .outcome)
 
   -- Receive undoes transmit, with the same flag and parameters and any legal tolerance and allowance: the frame, and no symbol differs.
@@ -170,7 +170,7 @@ module _ (e i q : ℕ) (flag : Bool) (frame before : List ℕ) (v : Verdict) (ma
       two : (A .answered ≡ decoded.Delivered) × (after ≡ frame) × ((w : ℕ) → w < i → getD counts w 0 ≡ differing (wordOf i q block w) (wordOf i q block w))
           × ((w : ℕ) → i ≤ w → getD counts w 0 ≡ 0) × (total ≡ sum counts)
       two =
-          condition-two e i q frame block block Accepted encoded refl block refl (λ w h. omega (arith, differing-self (wordOf i q block w))) out room (A .answered) counts total after
+          condition-two e i q frame block block Accepted sent-encoded refl block refl (λ w h. omega (arith, differing-self (wordOf i q block w))) out room (A .answered) counts total after
           (widened e i q s e block out (A .answered) counts total after small (decodes e t (omega arith) few marked out refl room) zero D)
 
       none : counts ≡ replicate 8 0

@@ -6,6 +6,7 @@ use native.Mathlib.Omega.{arith}
 use lib.ListN.{length, getD, replicate, length-append, length-replicate}
 use Rattle.field.specs.Field.{_⊕_, _·_, pow}
 use Rattle.field.proofs.Sum.{⊕-zero, zero-⊕, ⊕-octet}
+use Rattle.field.proofs.Changes.{changedFrom}
 use Rattle.field.proofs.Product.{·-lt, ·-mod, zero-·, ·-zero, ring, ·-one, ·-one-octet}
 use Rattle.field.proofs.Powers.{pow-add}
 use Rattle.codewords.specs.Words.{Octets, valueAt, withFill}
@@ -84,6 +85,11 @@ pub octet-at : (word : List ℕ) → Octets word → (k : ℕ) → getD word k 0
 octet-at [] o k = omega arith
 octet-at (c ∷ word) o zero = o .0
 octet-at (c ∷ word) o (suc k) = octet-at word (o .1) k
+
+pub changed-octets : (change : ℕ → ℕ) → ((n : ℕ) → change n < 256) → (n : ℕ) (word : List ℕ) → Octets word → Octets (changedFrom change n word)
+unfolding changedFrom
+changed-octets change small n [] o = tt
+changed-octets change small n (c ∷ word) o = (⊕-octet c (change n) (o .0) (small n), changed-octets change small (suc n) word (o .1))
 
 pub octets-rest : (u v : List ℕ) → Octets (u ++ v) → Octets v
 octets-rest [] v o = o

@@ -34,7 +34,7 @@ differ-assoc b1 b0 b1 = refl
 differ-assoc b1 b1 b0 = refl
 differ-assoc b1 b1 b1 = refl
 
-pub xor-assoc : (a b c : ℕ) → bitXor (bitXor a b) c ≡ bitXor a (bitXor b c)
+xor-assoc : (a b c : ℕ) → bitXor (bitXor a b) c ≡ bitXor a (bitXor b c)
 xor-assoc =
     bin-ind (λ (n : ℕ). (b c : ℕ) → bitXor (bitXor n b) c ≡ bitXor n (bitXor b c)) (λ b c. refl)
     (λ n ih b c. xor-step (bitXor n b) c

@@ -1,19 +1,20 @@
 -- What document 01 says of the sequence and of the randomiser, of any outcome that the contracts permit.
 use mathlib.Core.Path.{_≡_, refl, sym, ap, ap₂, _∙_}
 use mathlib.Core.Bool.{Bool, cond}
-use mathlib.Core.Logic.{_≢_}
+use mathlib.Core.Logic.{_≢_, _↔_}
 use mathlib.Core.List.{List, [], _∷_}
 use Prim.Native.Nat.{ℕ, zero, suc, _+_, _%_, _<_}
 use native.Mathlib.Numerals.{add-one}
-use native.Mathlib.Nat.{not-suc-le-zero, zero-add, add-zero, add-suc, suc-add, le-of-suc-le-suc}
+use native.Mathlib.Nat.{zero-add}
 use borrow.Author.Tests.{eq-eqb}
 use lib.Dec.{eqb}
-use lib.Bits.{bitXor, xor-self, xor-zero-r}
+use lib.Bits.{bitXor}
 use lib.ListN.{length, getD}
 use Rattle.refusals.specs.Numbers.{verdictNumber}
 use Rattle.refusals.specs.declared.Verdict.{Verdict}
 use Rattle.field.proofs.Below.{equal-below}
-use Rattle.field.proofs.Sum.{xor-assoc}
+use Rattle.field.proofs.Sum.{⊕-is}
+use Rattle.field.proofs.Changes.{changedFrom, changed-length, changed-at, changed-twice, changed-alike}
 use Rattle.randomiser.specs.Sequence.{bitAfter, bitOf, bitFrom, numberFrom, eightOn, sequenceOctet, addedFrom, randomised}
 use Rattle.randomiser.specs.Outcome.{NextOutcome, RandomiseOutcome}
 use Rattle.randomiser.proofs.Registers.{goes-on, sequence-goes-on, sequence-starts}
@@ -61,30 +62,26 @@ register-moves-on before octet left small nonzero o still =
     (sym (ap (λ (t : Bool). cond t before 0) (eq-eqb (eightOn before) before (sym (o .left) ∙ still)))
     ∙ equal-below heldStill (λ _. 0) 256 tt before small)
 
+-- The sequence is added to a block as any numbers are.
+pub added-changed : (n : ℕ) (block : List ℕ) → addedFrom n block ≡ changedFrom sequenceOctet n block
+unfolding addedFrom changedFrom
+added-changed n [] = refl
+added-changed n (octet ∷ block) = ap₂ {C = List ℕ} (λ (x : ℕ) (rest : List ℕ). x ∷ rest) (sym (⊕-is octet (sequenceOctet n))) (added-changed (suc n) block)
+
 -- Randomised twice, a block is as it was.
 pub added-twice : (n : ℕ) (block : List ℕ) → addedFrom n (addedFrom n block) ≡ block
-unfolding addedFrom
-added-twice n [] = refl
-added-twice n (octet ∷ block) =
-    ap₂ {C = List ℕ} (λ (x : ℕ) (rest : List ℕ). x ∷ rest)
-    (xor-assoc octet (sequenceOctet n) (sequenceOctet n) ∙ ap (bitXor octet) (xor-self (sequenceOctet n)) ∙ xor-zero-r octet) (added-twice (suc n) block)
+added-twice n block = added-changed n (addedFrom n block) ∙ ap (changedFrom sequenceOctet n) (added-changed n block) ∙ changed-twice sequenceOctet n block
 
 pub twice-gives-back : (block once twice : List ℕ) (v w : Verdict) → RandomiseOutcome block v once → RandomiseOutcome once w twice
     → verdictNumber v ≡ 0 → verdictNumber w ≡ 0 → twice ≡ block
 twice-gives-back block once twice v w o p a b = p .accepted b ∙ ap randomised (o .accepted a) ∙ added-twice 0 block
 
--- A block with the sequence added, octet by octet.
-pub added-length : (m : ℕ) (block : List ℕ) → length (addedFrom m block) ≡ length block
-unfolding addedFrom
-added-length m [] = refl
-added-length m (octet ∷ block) = ap suc (added-length (suc m) block)
+pub added-length : (n : ℕ) (block : List ℕ) → length (addedFrom n block) ≡ length block
+added-length n block = ap length (added-changed n block) ∙ changed-length sequenceOctet n block
 
-added-at : (m n : ℕ) (block : List ℕ) → n < length block → getD (addedFrom m block) n 0 ≡ bitXor (getD block n 0) (sequenceOctet (m + n))
-unfolding addedFrom
-added-at m n [] h = absurd (not-suc-le-zero h)
-added-at m zero (octet ∷ block) h = ap (λ (k : ℕ). bitXor octet (sequenceOctet k)) (sym (add-zero m))
-added-at m (suc n) (octet ∷ block) h =
-    added-at (suc m) n block (le-of-suc-le-suc h) ∙ ap (λ (k : ℕ). bitXor (getD block n 0) (sequenceOctet k)) (suc-add m n ∙ sym (add-suc m n))
+-- Two blocks differ where they differed.
+pub added-alike : (n : ℕ) (a b : List ℕ) → length a ≡ length b → (m : ℕ) → (getD a m 0 ≡ getD b m 0) ↔ (getD (addedFrom n a) m 0 ≡ getD (addedFrom n b) m 0)
+added-alike n a b h m = rw (added-changed n a, added-changed n b) (changed-alike sequenceOctet n a b h m)
 
 -- The sequence starts anew at each block: whatever went before, octet n of the block has octet n of the sequence added, counted from the block's own beginning, and the block is
 -- as long as it was. So of two blocks randomised one after the other the second is randomised as if it were the first.
@@ -92,5 +89,6 @@ pub starts-anew : (block after : List ℕ) (v : Verdict) → RandomiseOutcome bl
     → (length after ≡ length block) × ((n : ℕ) → n < length block → getD after n 0 ≡ bitXor (getD block n 0) (sequenceOctet n))
 starts-anew block after v o a = (
   ap length (o .accepted a) ∙ added-length 0 block,
-  λ n h. ap (λ (l : List ℕ). getD l n 0) (o .accepted a) ∙ added-at 0 n block h ∙ ap (λ (k : ℕ). bitXor (getD block n 0) (sequenceOctet k)) (zero-add n),
+  λ n h. ap (λ (l : List ℕ). getD l n 0) (o .accepted a ∙ added-changed 0 block) ∙ changed-at sequenceOctet 0 block n h ∙ ⊕-is (getD block n 0) (sequenceOctet (0 + n))
+      ∙ ap (λ (k : ℕ). bitXor (getD block n 0) (sequenceOctet k)) (zero-add n),
 )

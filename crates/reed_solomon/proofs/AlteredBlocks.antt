@@ -1,54 +1,14 @@
 -- A block altered in the first e + 1 symbols of word 0, one bit each: within one bit more than the burst figure.
-use mathlib.Core.Path.{_≡_, refl, sym, ap, ap₂, _∙_, subst}
+use mathlib.Core.Path.{_≡_, refl, ap, ap₂, _∙_}
 use mathlib.Core.Logic.{_≢_, inl, inr}
-use mathlib.Core.List.{List, [], _∷_}
+use mathlib.Core.List.{List}
 use Prim.Native.Nat.{ℕ, zero, suc, _+_, _-_, _*_, _/_, _%_, _^_, _≤_, _<_}
-use native.Mathlib.Nat.{div-add-mod', zero-div, mul-mod-left, mul-div-cancel, mul-le-mul, mul-le-mul-right, add-zero}
+use native.Mathlib.Nat.{div-add-mod', zero-div, mul-mod-left, mul-div-cancel, mul-le-mul, mul-le-mul-right}
 use native.Mathlib.Omega.{arith}
 use native.Mathlib.Decide.{decLt, ℕ-discrete}
-use lib.ListN.{length, getD}
-use Rattle.field.specs.Field.{_⊕_}
 use Rattle.field.proofs.Below.{equal-below}
-use Rattle.field.proofs.Sum.{⊕-shr, ⊕-mod, ⊕-zero, ⊕-octet}
-use Rattle.codewords.specs.Words.{Octets}
+use Rattle.field.proofs.Changes.{changedFrom}
 use Rattle.reed_solomon.specs.Bursts.{burstBits, Outside}
-
--- ---- a block with something added to each octet
-
--- From octet n on: `change` says what is added to which.
-unfoldable pub changedFrom : (ℕ → ℕ) → ℕ → List ℕ → List ℕ
-changedFrom change n [] = []
-changedFrom change n (octet ∷ block) = (octet ⊕ change n) ∷ changedFrom change (suc n) block
-
-module _ (change : ℕ → ℕ) where
-  pub changed-length : (n : ℕ) (block : List ℕ) → length (changedFrom change n block) ≡ length block
-  unfolding changedFrom
-  changed-length n [] = refl
-  changed-length n (octet ∷ block) = ap suc (changed-length (suc n) block)
-
-  pub changed-octets : ((n : ℕ) → change n < 256) → (n : ℕ) (block : List ℕ) → Octets block → Octets (changedFrom change n block)
-  unfolding changedFrom
-  changed-octets small n [] o = tt
-  changed-octets small n (octet ∷ block) o = (⊕-octet octet (change n) (o .0) (small n), changed-octets small (suc n) block (o .1))
-
-  pub changed-at : (n : ℕ) (block : List ℕ) (m : ℕ) → m < length block → getD (changedFrom change n block) m 0 ≡ getD block m 0 ⊕ change (n + m)
-  unfolding changedFrom
-  changed-at n [] m h = absurd (omega arith)
-  changed-at n (octet ∷ block) zero h = ap (λ (k : ℕ). octet ⊕ change k) (sym (add-zero n))
-  changed-at n (octet ∷ block) (suc m) h = changed-at (suc n) block m (omega arith) ∙ ap (λ (k : ℕ). getD block m 0 ⊕ change k) (omega arith)
-
-  -- a bit to which nothing is added
-  kept : (x y c : ℕ) → y / 2 ^ c % 2 ≡ 0 → (x ⊕ y) / 2 ^ c % 2 ≡ x / 2 ^ c % 2
-  kept x y c none =
-      ap (λ (z : ℕ). z % 2) (⊕-shr x y c) ∙ ⊕-mod (x / 2 ^ c) (y / 2 ^ c) 1 ∙ ap (λ (z : ℕ). x / 2 ^ c % 2 ⊕ z) none ∙ ⊕-zero (x / 2 ^ c % 2)
-
-  pub changed-bit : (n : ℕ) (block : List ℕ) (m c : ℕ) → change (n + m) / 2 ^ c % 2 ≡ 0 → getD (changedFrom change n block) m 0 / 2 ^ c % 2 ≡ getD block m 0 / 2 ^ c % 2
-  unfolding changedFrom
-  changed-bit n [] m c none = refl
-  changed-bit n (octet ∷ block) zero c none = kept octet (change n) c (subst (λ (k : ℕ). change k / 2 ^ c % 2 ≡ 0) (add-zero n) none)
-  changed-bit n (octet ∷ block) (suc m) c none = changed-bit (suc n) block m c (subst (λ (k : ℕ). change k / 2 ^ c % 2 ≡ 0) (omega arith) none)
-
--- ---- the first e + 1 symbols of word 0, each in one bit
 
 -- Symbols 0 to e - 1 in their lowest bit, symbol e in its highest.
 pub flip : ℕ → ℕ → ℕ

@@ -1,9 +1,9 @@
 -- The burst figure: a received block that differs from the one sent only within a run of E x I symbols, or of 8 x (E x I - 1) + 1 bits, is corrected.
-use mathlib.Core.Path.{_≡_, refl, sym, ap, _∙_, subst}
+use mathlib.Core.Path.{_≡_, refl, sym, _∙_, subst}
 use mathlib.Core.Logic.{inl, inr}
 use mathlib.Core.List.{List, [], _∷_, map}
 use Prim.Native.Nat.{ℕ, suc, _+_, _-_, _*_, _/_, _%_, _^_, _≤_, _<_}
-use native.Mathlib.Nat.{mod-lt, div-add-mod', div-mul-le-self, lt-div-mul-add, mul-le-mul, mul-le-mul-right, zero-add}
+use native.Mathlib.Nat.{mod-lt, div-add-mod', div-mul-le-self, lt-div-mul-add, mul-le-mul, mul-le-mul-right}
 use native.Mathlib.Omega.{arith}
 use native.Mathlib.Decide.{decLt}
 use lib.ListN.{length, getD, replicate, List·getD-eq-default}
@@ -20,7 +20,7 @@ use Rattle.reed_solomon.specs.declared.Decoded.the-variants.{Delivered}
 use Rattle.reed_solomon.specs.Blocks.{sentFrom, wordOf, sum}
 use Rattle.reed_solomon.specs.Outcome.{Coded, EncodeOutcome, DecodeOutcome}
 use Rattle.reed_solomon.specs.Bursts.{burstSymbols, burstBits, Outside, SymbolBurst, BitBurst, Corrected}
-use Rattle.reed_solomon.proofs.Interleaving.{symbol-below, sent-length, sent-at, word-at}
+use Rattle.reed_solomon.proofs.Interleaving.{symbol-below, sent-length, sent-symbol, word-at}
 use Rattle.reed_solomon.proofs.CodedBlocks.{EncodeLegal, outcome-legal}
 use Rattle.reed_solomon.proofs.Conditions.{condition-two}
 
@@ -52,7 +52,7 @@ module _ (e i q : ℕ) (some : 0 < i) (p n : ℕ) (short : n ≤ burstSymbols e 
       long block = sent-length i block w 0 (255 - q)
 
       symbol : (block : List ℕ) (k : ℕ) → k < length (sentFrom i sent w 0 (255 - q)) → getD (sentFrom i block w 0 (255 - q)) k 0 ≡ getD block (k * i + w) 0
-      symbol block k l = sent-at i block w 0 (255 - q) k (omega (arith, long sent)) ∙ ap (λ (m : ℕ). getD block (m * i + w) 0) (zero-add k)
+      symbol block k l = sent-symbol i block w (255 - q) k (omega (arith, long sent))
 
 -- ---- a run of 8 (m - 1) + 1 bits lies within m symbols
 

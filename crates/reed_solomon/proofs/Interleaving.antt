@@ -73,11 +73,15 @@ sent-at i block w k zero j h = absurd (omega arith)
 sent-at i block w k (suc n) zero h = ap (λ (m : ℕ). getD block (m * i + w) 0) (sym (add-zero k))
 sent-at i block w k (suc n) (suc j) h = sent-at i block w (suc k) n j (omega arith) ∙ ap (λ (m : ℕ). getD block (m * i + w) 0) (omega arith)
 
--- octet k i + w is symbol q + k of word w with its fill
+-- octet k i + w is symbol k of word w
+pub sent-symbol : (i : ℕ) (block : List ℕ) (w n k : ℕ) → k < n → getD (sentFrom i block w 0 n) k 0 ≡ getD block (k * i + w) 0
+sent-symbol i block w n k h = sent-at i block w 0 n k h ∙ ap (λ (m : ℕ). getD block (m * i + w) 0) (zero-add k)
+
+-- and symbol q + k with the fill in front
 pub word-at : (i q : ℕ) (block : List ℕ) (w k : ℕ) → k < 255 - q → getD (wordOf i q block w) (q + k) 0 ≡ getD block (k * i + w) 0
 word-at i q block w k h =
     ap (λ (n : ℕ). getD (wordOf i q block w) (n + k) 0) (sym (length-replicate q 0)) ∙ getD-append-add (replicate q 0) (sentFrom i block w 0 (255 - q)) k 0
-    ∙ sent-at i block w 0 (255 - q) k h ∙ ap (λ (n : ℕ). getD block (n * i + w) 0) (zero-add k)
+    ∙ sent-symbol i block w (255 - q) k h
 
 -- the words of two blocks that differ at the same places as two others differ in as many symbols
 module _ (i : ℕ) (a b c d : List ℕ) (alike : (m : ℕ) → (getD a m 0 ≡ getD b m 0) ↔ (getD c m 0 ≡ getD d m 0)) (w : ℕ) where

@@ -9,6 +9,7 @@ use lib.ListN.{length, take, drop, getD, replicate, length-drop, length-replicat
 use lib.Seq.{getD-take, getD-drop, length-take-le, take-append-add}
 use Rattle.field.specs.Field.{_⊕_}
 use Rattle.field.proofs.Sum.{⊕-self, ⊕-cancel}
+use Rattle.field.proofs.Changes.{changed-length, changed-at, changed-bit}
 use Rattle.refusals.specs.Order.{FirstOf}
 use Rattle.refusals.specs.Sizes.{information, blockLength}
 use Rattle.refusals.specs.Numbers.{verdictNumber}
@@ -16,6 +17,7 @@ use Rattle.refusals.specs.Calls.{strength, depth, fill}
 use Rattle.refusals.specs.declared.Verdict.{Verdict}
 use Rattle.refusals.specs.declared.Verdict.the-variants.{Accepted}
 use Rattle.codewords.specs.Words.{Good, differing, withFill}
+use Rattle.codewords.proofs.WordValues.{changed-octets}
 use Rattle.codewords.proofs.LineWords.{differing-front, differing-first}
 use Rattle.codewords.proofs.Codewords.{checks-unique, good-filled}
 use Rattle.reed_solomon.specs.declared.Decoded.{Decoded}
@@ -23,12 +25,12 @@ use Rattle.reed_solomon.specs.declared.Decoded.the-variants.{Delivered}
 use Rattle.reed_solomon.specs.Blocks.{sentFrom, wordOf}
 use Rattle.reed_solomon.specs.Outcome.{Coded, EncodeOutcome, Delivery, DecodeOutcome, decodedNumber}
 use Rattle.reed_solomon.specs.Bursts.{burstSymbols, burstBits, SymbolBurst, BitBurst}
-use Rattle.reed_solomon.proofs.Interleaving.{place-below, sent-length, sent-at, sent-is}
+use Rattle.reed_solomon.proofs.Interleaving.{place-below, sent-length, sent-symbol, sent-is}
 use Rattle.reed_solomon.proofs.CodedBlocks.{EncodeLegal, outcome-legal}
 use Rattle.reed_solomon.proofs.Settled.{word-information}
 use Rattle.reed_solomon.proofs.ZeroBlocks.{zeroFrame, zeroBlock, zeros-encoded}
 use Rattle.reed_solomon.proofs.Bursts.{bits-in-symbols, coded-octets}
-use Rattle.reed_solomon.proofs.AlteredBlocks.{altered, changed-length, changed-octets, changed-at, changed-bit, flip, flip-octet, flip-some, flips, only-octet, flips-symbol, flips-bit}
+use Rattle.reed_solomon.proofs.AlteredBlocks.{altered, flip, flip-octet, flip-some, flips, only-octet, flips-symbol, flips-bit}
 
 -- ---- a coded block so altered
 
@@ -66,7 +68,7 @@ module _ (e i q : ℕ) (frame block : List ℕ) (legal : EncodeLegal e i q (leng
       room = omega (arith, legal .words .filled)
 
       symbol : (list : List ℕ) (k : ℕ) → k < suc e → getD (sentFrom i list 0 0 (255 - q)) k 0 ≡ getD list (k * i) 0
-      symbol list k h = sent-at i list 0 0 (255 - q) k (omega (arith, room)) ∙ ap (λ (n : ℕ). getD list n 0) (ap (λ (n : ℕ). n * i + 0) (zero-add k) ∙ add-zero (k * i))
+      symbol list k h = sent-symbol i list 0 (255 - q) k (omega (arith, room)) ∙ ap (λ (n : ℕ). getD list n 0) (add-zero (k * i))
 
       none : (k : ℕ) → k < suc e → getD wrong (k * i) 0 ≡ getD block (k * i) 0 → flip e k ≡ 0
       none k h same =
