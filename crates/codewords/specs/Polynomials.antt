@@ -1,4 +1,5 @@
--- Polynomials over the field, lowest coefficient first. No public contract speaks of them.
+-- Polynomials over the field, lowest coefficient first. Of all this public contracts speak only of the sum and of a polynomial times c,
+-- which are the same with the highest coefficient first.
 use mathlib.Core.List.{List, [], _∷_}
 use Prim.Native.Nat.{ℕ, zero, suc}
 use Rattle.field.specs.Field.{_⊕_, _·_}

@@ -1,5 +1,6 @@
 -- The rows of check octets are the checks of the shift register, on the line: a word's symbols followed by its row, with the fill in front, are a codeword.
 use mathlib.Core.Path.{_≡_, refl, sym, ap, ap₂, _∙_, subst}
+use mathlib.Core.Logic.{inl, inr}
 use mathlib.Core.List.{List, [], _∷_, _++_, map, append-assoc}
 use Prim.Native.Nat.{ℕ, zero, suc, _+_, _-_, _*_, _≤_, _<_}
 use native.Mathlib.Nat.{zero-add}
@@ -7,21 +8,25 @@ use native.Mathlib.Numerals.{add-one}
 use native.Mathlib.Omega.{arith}
 use lib.ListN.{length, take, getD, replicate, length-append, length-map, length-replicate, replicate-append-replicate}
 use lib.Seq.{take-at}
-use Rattle.field.specs.Field.{_⊕_, _·_}
+use Rattle.field.specs.Field.{_⊕_, whereSet, timesAlpha, shiftAndAdd, _·_, pow}
 use Rattle.field.specs.Line.{toLine, toConventional}
 use Rattle.field.proofs.Sum.{⊕-zero}
 use Rattle.field.proofs.Product.{·-zero}
 use Rattle.field.proofs.Conversions.{toLine-linear, toConventional-linear, conventional-line}
+use Rattle.refusals.specs.Order.{OneOf}
+use Rattle.refusals.specs.Sizes.{strengths}
+use Rattle.refusals.proofs.Legal.{strength-bounds}
 use Rattle.codewords.specs.Words.{Octets, Codeword, withFill}
 use Rattle.codewords.specs.Polynomials.{_⊞_, scaled}
 use Rattle.codewords.specs.Locators.{Generator}
 use Rattle.codewords.proofs.Polynomials.{length-scaled}
 use Rattle.codewords.proofs.WordValues.{zeros-octets, length-snoc}
-use Rattle.codewords.proofs.Checks.{push, checksFrom, checks, length-push, length-checks, checks-octets}
+use Rattle.codewords.proofs.Checks.{generator8, generator16, generator8-right, generator16-right, push, checksFrom, checks, length-push, length-checks, checks-octets}
 use Rattle.codewords.proofs.LineWords.{conversion-++}
 use Rattle.codewords.proofs.Codewords.{encoded-codeword}
 use Rattle.reed_solomon.specs.Blocks.{sentFrom}
-use Rattle.reed_solomon.specs.EncoderWorking.{product, entered, inRow, rowAfter}
+use Rattle.reed_solomon.specs.Rows.{withRoot, rooted, generator, inRow, product, entered}
+use Rattle.reed_solomon.specs.EncoderWorking.{rowAfter}
 use Rattle.reed_solomon.proofs.StepTables.{toLine-zero}
 use Rattle.reed_solomon.proofs.Interleaving.{sent-length, sent-octets, sent-++}
 
@@ -145,35 +150,60 @@ checks-zeros generator us n p =
 
 -- ---- a word with its row of checks
 
-module _ (e : ℕ) (generator : List ℕ) (right : Generator (128 - e) (e + e) generator) (weak : 0 < e) (strong : e ≤ 16) where
-  pub long-row : length (inRow e generator) ≡ 32
-  long-row = length-append generator (replicate (32 - (e + e)) 0) ∙ omega (arith, right .size, length-replicate {A = ℕ} (32 - (e + e)) 0)
+-- the generator of each strength is the product over its roots: one computed test for each
+eight : generator 8 ≡ generator8
+unfolding generator withRoot rooted generator8 _⊞_ scaled pow _·_ shiftAndAdd timesAlpha whereSet _⊕_
+eight = refl
+
+sixteen : generator 16 ≡ generator16
+unfolding generator withRoot rooted generator16 _⊞_ scaled pow _·_ shiftAndAdd timesAlpha whereSet _⊕_
+sixteen = refl
+
+pub generator-right : (e : ℕ) → OneOf strengths e → Generator (128 - e) (e + e) (generator e)
+generator-right e (inl h) =
+    subst (λ (n : ℕ). Generator (128 - n) (n + n) (generator n)) (sym h) (subst (Generator 120 16) (sym eight) generator8-right)
+generator-right e (inr (inl h)) =
+    subst (λ (n : ℕ). Generator (128 - n) (n + n) (generator n)) (sym h) (subst (Generator 112 32) (sym sixteen) generator16-right)
+generator-right e (inr (inr o)) = absurd o
+
+module _ (e : ℕ) (strength : OneOf strengths e) where
+  right : Generator (128 - e) (e + e) (generator e)
+  right = generator-right e strength
+
+  weak : 0 < e
+  weak = omega (arith, strength-bounds e strength .0)
+
+  strong : e ≤ 16
+  strong = strength-bounds e strength .1
+
+  pub long-row : length (inRow e) ≡ 32
+  long-row = length-append (generator e) (replicate (32 - (e + e)) 0) ∙ omega (arith, right .size, strong, length-replicate {A = ℕ} (32 - (e + e)) 0)
 
   module _ (i : ℕ) (frame : List ℕ) (w k : ℕ) where
-    pub row-front : take (e + e) (rowAfter (inRow e generator) i frame w k) ≡ map toLine (checks generator (map toConventional (sentFrom i frame w 0 k)))
+    pub row-front : take (e + e) (rowAfter (inRow e) i frame w k) ≡ map toLine (checks (generator e) (map toConventional (sentFrom i frame w 0 k)))
     unfolding checks
     row-front =
         ap (take (e + e))
-        (row-checks (inRow e generator) i frame w k long-row
-        ∙ ap (map toLine) (checks-zeros generator us (32 - (e + e)) (omega (arith, right .size)))
-        ∙ line-++ (checks generator us) (replicate (32 - (e + e)) 0))
-        ∙ take-at (map toLine (checks generator us)) (map toLine (replicate (32 - (e + e)) 0)) (e + e)
-        (length-map (checks generator us) toLine ∙ length-checks generator us (replicate (length generator) 0) (length-replicate (length generator) 0) ∙ right .size)
+        (row-checks (inRow e) i frame w k long-row
+        ∙ ap (map toLine) (checks-zeros (generator e) us (32 - (e + e)) (omega (arith, right .size, weak)))
+        ∙ line-++ (checks (generator e) us) (replicate (32 - (e + e)) 0))
+        ∙ take-at (map toLine (checks (generator e) us)) (map toLine (replicate (32 - (e + e)) 0)) (e + e)
+        (length-map (checks (generator e) us) toLine ∙ length-checks (generator e) us (replicate (length (generator e)) 0) (length-replicate (length (generator e)) 0) ∙ right .size)
       where
         us : List ℕ
         us = map toConventional (sentFrom i frame w 0 k)
 
-    pub row-front-size : length (take (e + e) (rowAfter (inRow e generator) i frame w k)) ≡ e + e
+    pub row-front-size : length (take (e + e) (rowAfter (inRow e) i frame w k)) ≡ e + e
     unfolding checks
     row-front-size =
-        ap length row-front ∙ length-map (checks generator us) toLine
-        ∙ length-checks generator us (replicate (length generator) 0) (length-replicate (length generator) 0) ∙ right .size
+        ap length row-front ∙ length-map (checks (generator e) us) toLine
+        ∙ length-checks (generator e) us (replicate (length (generator e)) 0) (length-replicate (length (generator e)) 0) ∙ right .size
       where
         us : List ℕ
         us = map toConventional (sentFrom i frame w 0 k)
 
     pub row-codeword : (q : ℕ) → q + k + (e + e) ≡ 255 → ((m : ℕ) → getD frame m 0 < 256)
-        → Codeword e (withFill q (sentFrom i frame w 0 k ++ take (e + e) (rowAfter (inRow e generator) i frame w k)))
+        → Codeword e (withFill q (sentFrom i frame w 0 k ++ take (e + e) (rowAfter (inRow e) i frame w k)))
     row-codeword q whole octets =
         subst (λ (row : List ℕ). Codeword e (withFill q (sentFrom i frame w 0 k ++ row))) (sym row-front)
-        (encoded-codeword e q generator (sentFrom i frame w 0 k) (omega arith) weak right (sent-octets i frame w 0 k octets) (omega (arith, sent-length i frame w 0 k)))
+        (encoded-codeword e q (generator e) (sentFrom i frame w 0 k) (omega arith) weak right (sent-octets i frame w 0 k octets) (omega (arith, sent-length i frame w 0 k)))

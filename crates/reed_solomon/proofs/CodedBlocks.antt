@@ -2,7 +2,7 @@
 use mathlib.Core.Path.{_≡_, sym, ap, ap₂, _∙_, subst}
 use mathlib.Core.List.{List, [], _++_}
 use Prim.Native.Nat.{ℕ, _+_, _-_, _*_, _≤_, _<_}
-use native.Mathlib.Nat.{mul-le-mul-right}
+use native.Mathlib.Nat.{mul-le-mul-right, mod-eq-of-lt}
 use native.Mathlib.Omega.{arith}
 use lib.ListN.{length, take, getD}
 use lib.Seq.{getD-take}
@@ -23,9 +23,11 @@ use Rattle.refusals.proofs.Verdicts.{parameter-nonzero, same-verdict}
 use Rattle.codewords.specs.Words.{Codeword, withFill}
 use Rattle.reed_solomon.specs.Blocks.{sentFrom, wordOf}
 use Rattle.reed_solomon.specs.Outcome.{Coded, EncodeOutcome}
-use Rattle.reed_solomon.specs.EncoderWorking.{inRow, StrengthTable, rowAfter, RowsDone, ChecksPut}
+use Rattle.reed_solomon.specs.Rows.{inRow, rowsEntered, noRows}
+use Rattle.reed_solomon.specs.EncoderWorking.{StrengthTable, rowAfter, RowsOn, ChecksPut}
 use Rattle.reed_solomon.proofs.Interleaving.{sent-is, sent-++, sent-information, place-below}
 use Rattle.reed_solomon.proofs.CheckRows.{long-row, row-front-size, row-codeword}
+use Rattle.reed_solomon.proofs.RowTurns.{frame-rows}
 
 -- ---- what is known once every check of encode has passed
 
@@ -72,44 +74,36 @@ checks-room e i q frame before put legal P =
 
 -- ---- the block
 
-module _ (e i q : ℕ) (frame before put after : List ℕ) (rows : List (List ℕ)) (table : List ℕ) (legal : EncodeLegal e i q (length frame) (length before))
-    (T : StrengthTable e table) (R : RowsDone table i frame rows) (P : put ≡ copiedOver frame before) (C : ChecksPut rows i (length frame) put after)
+module _ (e i q : ℕ) (frame after : List ℕ) (words : LegalWords e i q) (whole : length frame ≡ frameLength e i q) (first : take (length frame) after ≡ frame)
+    (checks : (j w : ℕ) → j < e + e → w < i → getD after (length frame + (j * i + w)) 0 ≡ getD (getD (rowsEntered (inRow e) i 0 noRows frame) w []) j 0)
     (octets : (m : ℕ) → getD frame m 0 < 256) where
   abbrev symbols : ℕ
   symbols = information e - q
 
   sizes : 255 - q ≡ symbols + (e + e)
-  sizes = omega (arith, legal .words .strong, legal .words .filled)
-
-  fits : length frame + (e + e) * i ≡ length before
-  fits = checks-fit e i q (length frame) (length before) legal
-
-  first : take (length frame) after ≡ frame
-  first = C .front ∙ ap (take (length frame)) P ∙ copied-front frame before (omega (arith, fits))
+  sizes = omega (arith, words .strong, words .filled)
 
   module _ (w : ℕ) (h : w < i) where
     abbrev row : List ℕ
-    row = rowAfter (inRow e (T .generator)) i frame w symbols
+    row = rowAfter (inRow e) i frame w symbols
 
-    row-is : getD rows w [] ≡ row
-    row-is = R (inRow e (T .generator)) (long-row e (T .generator) (T .right) (omega (arith, legal .words .weak)) (legal .words .strong)) (T .listed) symbols (legal .input) w h
+    row-is : getD (rowsEntered (inRow e) i 0 noRows frame) w [] ≡ row
+    row-is = frame-rows (inRow e) i frame (omega arith) (words .deep) symbols w whole h
 
     last : sentFrom i after w (0 + symbols) (e + e) ≡ take (e + e) row
     last =
-        sent-is i after w (0 + symbols) (e + e) (take (e + e) row)
-        (row-front-size e (T .generator) (T .right) (omega (arith, legal .words .weak)) (legal .words .strong) i frame w symbols)
-        (λ j l. ap (λ (n : ℕ). getD after n 0) (omega (arith, legal .input))
-        ∙ C .checks j w h (omega (arith, put-size frame before put P, fits, place-below i j (e + e) w l h))
+        sent-is i after w (0 + symbols) (e + e) (take (e + e) row) (row-front-size e (words .strength) i frame w symbols)
+        (λ j l. ap (λ (n : ℕ). getD after n 0) (omega arith) ∙ checks j w l h
         ∙ ap (λ (list : List ℕ). getD list j 0) row-is ∙ sym (getD-take (e + e) row j 0 l))
 
     word-coded : Codeword e (wordOf i q after w)
     word-coded =
         subst (λ (word : List ℕ). Codeword e (withFill q word))
         (sym (ap (sentFrom i after w 0) sizes ∙ sent-++ i after w 0 symbols (e + e)
-        ∙ ap₂ {C = List ℕ} (λ (x y : List ℕ). x ++ y) (sent-information i frame after w symbols h (legal .input) first) last))
-        (row-codeword e (T .generator) (T .right) (omega (arith, legal .words .weak)) (legal .words .strong) i frame w symbols q (omega (arith, sizes, legal .words .filled)) octets)
+        ∙ ap₂ {C = List ℕ} (λ (x y : List ℕ). x ++ y) (sent-information i frame after w symbols h whole first) last))
+        (row-codeword e (words .strength) i frame w symbols q (omega (arith, sizes, words .filled)) octets)
 
-  block-coded : Coded e i q frame after
+  pub block-coded : Coded e i q frame after
   block-coded = record { information = first; words = word-coded }
 
 -- ---- encode
@@ -120,10 +114,10 @@ pub record ChecksWritten (e i : ℕ) (frame after : List ℕ) : Type 0 where
   pub rows : List (List ℕ)
   pub table : List ℕ
   pub listed : StrengthTable e table
-  pub done : RowsDone table i frame rows
+  pub done : RowsOn table i 0 noRows frame rows
   pub checks : ChecksPut rows i (length frame) put after
 
-abbrev pub checks-written : (e i : ℕ) (frame after put : List ℕ) (rows : List (List ℕ)) (table : List ℕ) → StrengthTable e table → RowsDone table i frame rows
+abbrev pub checks-written : (e i : ℕ) (frame after put : List ℕ) (rows : List (List ℕ)) (table : List ℕ) → StrengthTable e table → RowsOn table i 0 noRows frame rows
     → ChecksPut rows i (length frame) put after → ChecksWritten e i frame after
 checks-written e i frame after put rows table T R C = record { put = put; rows = rows; table = table; listed = T; done = R; checks = C }
 
@@ -144,12 +138,30 @@ module _ (e i q : ℕ) (frame before after : List ℕ) where
 
   pub encode-accepts : (v : Verdict) → v ≡ Accepted → FirstOf (encodeOrder e i q (length frame) (length before)) 0 → ((m : ℕ) → getD frame m 0 < 256) → (W : ChecksWritten e i frame after)
       → W .put ≡ copiedOver frame before → EncodeOutcome e i q frame before v after
-  encode-accepts v accepts first octets W copied = record {
-    number = subst (FirstOf (encodeOrder e i q (length frame) (length before))) (sym (ap verdictNumber accepts)) first;
-    size = W .checks .size ∙ put-size frame before (W .put) copied;
-    refused = λ n. absurd (n (ap verdictNumber accepts));
-    accepted = λ n. block-coded e i q frame before (W .put) after (W .rows) (W .table) (encode-legal e i q (length frame) (length before) first) (W .listed) (W .done) copied (W .checks) octets;
-  }
+  encode-accepts v accepts first octets W copied =
+      record {
+        number = subst (FirstOf (encodeOrder e i q (length frame) (length before))) (sym (ap verdictNumber accepts)) first;
+        size = W .checks .size ∙ put-size frame before (W .put) copied;
+        refused = λ n. absurd (n (ap verdictNumber accepts));
+        accepted = λ n. coded;
+      }
+    where
+      legal : EncodeLegal e i q (length frame) (length before)
+      legal = encode-legal e i q (length frame) (length before) first
+
+      fits : length frame + (e + e) * i ≡ length before
+      fits = checks-fit e i q (length frame) (length before) legal
+
+      rows-are : W .rows ≡ rowsEntered (inRow e) i 0 noRows frame
+      rows-are = W .done (inRow e) (long-row e (legal .words .strength)) (W .listed) 0 (mod-eq-of-lt (omega (arith, legal .words .some)))
+
+      coded : Coded e i q frame after
+      coded =
+          block-coded e i q frame after (legal .words) (legal .input)
+          (W .checks .front ∙ ap (take (length frame)) copied ∙ copied-front frame before (omega (arith, fits)))
+          (λ j w l h. W .checks .checks j w h (omega (arith, put-size frame before (W .put) copied, fits, place-below i j (e + e) w l h))
+          ∙ ap (λ (list : List (List ℕ)). getD (getD list w []) j 0) rows-are)
+          octets
 
 -- What an accepted outcome says of the numbers and the lengths.
 pub outcome-legal : (e i q : ℕ) (frame before block : List ℕ) (v : Verdict) → EncodeOutcome e i q frame before v block → verdictNumber v ≡ 0

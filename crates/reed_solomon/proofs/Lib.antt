@@ -1,11 +1,14 @@
 -- The laws of the Reed-Solomon coder, and the conditions of acceptance.
 pub mod Filling
+pub mod Mapping
 pub mod StepTables
 pub mod Interleaving
 pub mod CheckRows
 pub mod RowTurns
 pub mod CodedBlocks
+pub mod PortionSteps
 pub mod Settled
+pub mod Portions
 pub mod Gathering
 pub mod WordRepairs
 pub mod Deliveries

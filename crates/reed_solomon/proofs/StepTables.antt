@@ -21,7 +21,8 @@ use Rattle.codewords.specs.Polynomials.{_⊞_}
 use Rattle.codewords.proofs.WordValues.{length-pair, length-snoc}
 use Rattle.refusals.specs.Order.{OneOf}
 use Rattle.refusals.specs.Sizes.{strengths}
-use Rattle.reed_solomon.specs.EncoderWorking.{product, entered, tableRows, tableOf, MovedUp, BitAdded}
+use Rattle.reed_solomon.specs.Rows.{product, entered}
+use Rattle.reed_solomon.specs.EncoderWorking.{tableRows, tableOf, MovedUp, BitAdded}
 use Rattle.reed_solomon.proofs.Filling.{Filled}
 
 -- ---- a linear function of an octet is a matrix of its values at the eight bits

@@ -3,20 +3,8 @@ use mathlib.Core.Path.{_≡_}
 use mathlib.Core.List.{List, [], _∷_, _++_, map}
 use Prim.Native.Nat.{ℕ, zero, suc, _+_, _-_, _*_, _/_, _%_, _^_, _<_}
 use lib.ListN.{length, take, getD, replicate}
-use Rattle.field.specs.Field.{_⊕_, _·_, whereSet}
-use Rattle.field.specs.Line.{toLine, toConventional}
-use Rattle.codewords.specs.Polynomials.{_⊞_}
-use Rattle.codewords.specs.Locators.{Generator}
-
--- What a feedback octet on the line adds to each octet of a row: its product with the generator, on the line.
-abbrev pub product : ℕ → ℕ → ℕ
-product feedback coefficient = toLine (toConventional feedback · coefficient)
-
--- A word's check octets, on the line, when one more information symbol enters: they move up one place, and the product of the
--- generator with the feedback, the symbol plus the first check octet, is added.
-unfoldable pub entered : List ℕ → List ℕ → ℕ → List ℕ
-entered generator [] symbol = []
-entered generator (first ∷ row) symbol = (row ++ (0 ∷ [])) ⊞ map (product (symbol ⊕ first)) generator
+use Rattle.field.specs.Field.{_⊕_, whereSet}
+use Rattle.reed_solomon.specs.Rows.{product, entered, inRow, rowsEntered}
 
 -- The table of a generator: for each bit of the feedback, top bit first, what that bit alone adds.
 unfoldable pub tableRows : List ℕ → List ℕ → List ℕ
@@ -26,15 +14,9 @@ tableRows generator (bit ∷ bits) = map (product bit) generator ++ tableRows ge
 abbrev pub tableOf : List ℕ → List ℕ
 tableOf generator = tableRows generator (128 ∷ 64 ∷ 32 ∷ 16 ∷ 8 ∷ 4 ∷ 2 ∷ 1 ∷ [])
 
--- A generator of strength e in a row of 32: zeros follow its 2e coefficients.
-abbrev pub inRow : ℕ → List ℕ → List ℕ
-inRow e generator = generator ++ replicate (32 - (e + e)) 0
-
 -- The table of the generator of strength e.
-pub record StrengthTable (e : ℕ) (table : List ℕ) : Type 0 where
-  pub generator : List ℕ
-  pub right : Generator (128 - e) (e + e) generator
-  pub listed : table ≡ tableOf (inRow e generator)
+abbrev pub StrengthTable : ℕ → List ℕ → Type 0
+StrengthTable e table = table ≡ tableOf (inRow e)
 
 -- Each octet of a row stands one place further up, and a zero comes in.
 pub record MovedUp (row moved : List ℕ) : Type 0 where
@@ -55,10 +37,10 @@ unfoldable pub rowAfter : List ℕ → ℕ → List ℕ → ℕ → ℕ → List
 rowAfter generator i frame w zero = replicate 32 0
 rowAfter generator i frame w (suc k) = entered generator (rowAfter generator i frame w k) (getD frame (k * i + w) 0)
 
--- The rows are those of the words after the whole frame, whichever generator the table is of.
-abbrev pub RowsDone : List ℕ → ℕ → List ℕ → List (List ℕ) → Type 0
-RowsDone table i frame rows =
-    (generator : List ℕ) → length generator ≡ 32 → table ≡ tableOf generator → (k : ℕ) → length frame ≡ k * i → (w : ℕ) → w < i → getD rows w [] ≡ rowAfter generator i frame w k
+-- The rows when symbols have entered from a place of that word on, whichever generator the table is of.
+abbrev pub RowsOn : List ℕ → ℕ → ℕ → List (List ℕ) → List ℕ → List (List ℕ) → Type 0
+RowsOn table i word rows symbols after =
+    (generator : List ℕ) → length generator ≡ 32 → table ≡ tableOf generator → (place : ℕ) → place % i ≡ word → after ≡ rowsEntered generator i place rows symbols
 
 -- From octet `start` on the block holds the rows interleaved; what stands before is as it was.
 pub record ChecksPut (rows : List (List ℕ)) (i start : ℕ) (before after : List ℕ) : Type 0 where

@@ -1,6 +1,8 @@
 -- Blocks of interleaved words, what encode and decode promise, bursts, and what the coder does on the way.
 pub mod Blocks
+pub mod Rows
 pub mod Outcome
+pub mod Portions
 pub mod Bursts
 pub mod EncoderWorking
 pub mod DecoderWorking

@@ -1,24 +1,30 @@
 // Encoding of a whole frame: its words' checks, and the block with frame and checks.
 ghost use Prim.Native.Nat.{_+_, _*_, _≤_, _<_};
 ghost use lib.ListN.{length};
-ghost use Rattle.reed_solomon.specs.EncoderWorking.{RowsDone, ChecksPut};
+ghost use Rattle.reed_solomon.specs.EncoderWorking.{RowsOn, ChecksPut};
 ghost use Rattle.reed_solomon.specs.Outcome.{EncodeOutcome};
 use crate::checks::stepped;
 use crate::checks::table_of;
 use octets::copy_front;
 use refusals::Verdict;
 
-// Octet n enters word n mod depth: a counter that starts anew spares a division for each octet.
-fn rows_of(table: &[u8; 256], frame: &[u8], depth: usize) -> [[u8; 32]; 8]
-    requires { ⌜ (0 < depth) × (depth ≤ 8) ⌝ }
-    ensures { λ r. ⌜ RowsDone (now (table .entry)) depth (now (frame .entry)) r ⌝ }
+// The octets enter in turn from `word` on, whole frame or portion: a counter that starts anew spares a division for each octet.
+pub(crate) fn rows_on(
+    table: &[u8; 256],
+    before: [[u8; 32]; 8],
+    first: usize,
+    symbols: &[u8],
+    depth: usize,
+) -> [[u8; 32]; 8]
+    requires { ⌜ (first < depth) × (depth ≤ 8) ⌝ }
+    ensures { λ r. ⌜ RowsOn (now (table .entry)) depth first before (now (symbols .entry)) r ⌝ }
 {
-    let mut rows = [[0u8; 32]; 8];
-    let mut word = 0usize;
-    let n = frame.len();
+    let mut rows = before;
+    let mut word = first;
+    let n = symbols.len();
     for at in 0..n {
         let row = rows[word];
-        rows[word] = stepped(table, row, frame[at]);
+        rows[word] = stepped(table, row, symbols[at]);
         word += 1;
         if word == depth {
             word = 0;
@@ -28,7 +34,7 @@ fn rows_of(table: &[u8; 256], frame: &[u8], depth: usize) -> [[u8; 32]; 8]
 }
 
 // The checks follow the frame, interleaved as it is.
-fn put_checks(rows: [[u8; 32]; 8], depth: usize, start: usize, block: &mut [u8])
+pub(crate) fn put_checks(rows: [[u8; 32]; 8], depth: usize, start: usize, block: &mut [u8])
     requires { ⌜ (0 < depth) × (depth ≤ 8) × (start ≤ length (now block)) × (length (now block) ≤ start + 32 * depth) ⌝ }
     ensures { λ _. ⌜ ChecksPut rows depth start (now (block .entry)) (now (block .exit)) ⌝ }
 {
@@ -56,7 +62,7 @@ pub fn encode(e: u32, depth: u32, fill: u32, frame: &[u8], block: &mut [u8]) -> 
     }
     let words = depth as usize;
     let table = table_of(e);
-    let rows = rows_of(&table, frame, words);
+    let rows = rows_on(&table, [[0u8; 32]; 8], 0, frame, words);
     copy_front(frame, block);
     put_checks(rows, words, frame.len(), block);
     Verdict::Accepted

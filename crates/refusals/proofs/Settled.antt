@@ -7,9 +7,9 @@ use lib.ListN.{getD}
 use Rattle.refusals.specs.Order.{Check, FirstOf, OneOf, Tells}
 use Rattle.refusals.specs.Sizes.{strengths}
 use Rattle.refusals.specs.Numbers.{parameterNumber, verdictNumber, markerNumber}
-use Rattle.refusals.specs.Calls.{encodeOrder, decodeParameters, randomiseOrder, convolveOrder, markerParameters, searchOrder, transmitOrder, receiveParameters}
+use Rattle.refusals.specs.Calls.{encodeOrder, portionOrder, closeOrder, decodeParameters, randomiseOrder, convolveOrder, markerParameters, searchOrder, transmitOrder, receiveParameters}
 use Rattle.refusals.specs.declared.Parameter.{Parameter}
-use Rattle.refusals.specs.declared.Parameter.the-variants.{Strength, Depth, Fill, Allowance, Input, Output, Rate, Tolerance, Start}
+use Rattle.refusals.specs.declared.Parameter.the-variants.{Strength, Depth, Fill, Allowance, Input, Output, Rate, Tolerance, Start, Progress}
 use Rattle.refusals.specs.declared.Verdict.{Verdict}
 use Rattle.refusals.specs.declared.Verdict.the-variants.{Accepted, Refused}
 use Rattle.refusals.specs.declared.MarkerRefusal.{MarkerRefusal}
@@ -20,7 +20,7 @@ use Rattle.refusals.proofs.Orders.{first-unique}
 byNumber : List Verdict
 byNumber =
     Accepted ∷ Refused Strength ∷ Refused Depth ∷ Refused Fill ∷ Refused Allowance ∷ Refused Input ∷ Refused Output ∷ Refused Rate ∷ Refused Tolerance
-    ∷ Accepted ∷ Accepted ∷ Refused Start ∷ []
+    ∷ Accepted ∷ Accepted ∷ Refused Start ∷ Accepted ∷ Accepted ∷ Refused Progress ∷ []
 
 found : (v : Verdict) → getD byNumber (verdictNumber v) Accepted ≡ v
 unfolding byNumber
@@ -34,6 +34,7 @@ found (Refused Output) = refl
 found (Refused Rate) = refl
 found (Refused Tolerance) = refl
 found (Refused Start) = refl
+found (Refused Progress) = refl
 
 pub verdict-known : (v w : Verdict) → verdictNumber v ≡ verdictNumber w → v ≡ w
 verdict-known v w e = sym (found v) ∙ ap (λ (n : ℕ). getD byNumber n Accepted) e ∙ found w
@@ -62,6 +63,12 @@ module _ (v w : Verdict) where
 
   pub encode-parameters-settled : (e i q frame block : ℕ) → Settled (encodeOrder e i q frame block)
   encode-parameters-settled e i q frame block = verdict-settled (encodeOrder e i q frame block) v w
+
+  pub portion-parameters-settled : (e i q portion written place : ℕ) (closed : Bool) → Settled (portionOrder e i q portion written place closed)
+  portion-parameters-settled e i q portion written place closed = verdict-settled (portionOrder e i q portion written place closed) v w
+
+  pub close-parameters-settled : (e i q checks place : ℕ) (closed : Bool) → Settled (closeOrder e i q checks place closed)
+  close-parameters-settled e i q checks place closed = verdict-settled (closeOrder e i q checks place closed) v w
 
   pub transmit-parameters-settled : (e i q frame marked : ℕ) → Settled (transmitOrder e i q frame marked)
   transmit-parameters-settled e i q frame marked = verdict-settled (transmitOrder e i q frame marked) v w

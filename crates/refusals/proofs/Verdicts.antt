@@ -1,22 +1,23 @@
 -- How a call answers its order: by the verdict on checks 1 to 3, then by what comes after them.
-use mathlib.Core.Path.{_≡_, refl, subst}
+use mathlib.Core.Path.{_≡_, refl, sym, _∙_, subst}
+use mathlib.Core.Bool.{Bool, true, false}
 use mathlib.Core.Logic.{_≢_, _⊎_, inl, inr, ⊎-elim}
 use mathlib.Core.List.{List, [], _∷_}
 use Prim.Native.Nat.{ℕ, _<_}
 use native.Mathlib.Omega.{arith}
-use Rattle.refusals.specs.Order.{Check, FirstOf}
+use Rattle.refusals.specs.Order.{Check, FirstOf, Tells}
 use Rattle.refusals.specs.Numbers.{parameterNumber, verdictNumber}
 use Rattle.refusals.specs.Calls.{allowance, input, output}
 use Rattle.refusals.specs.Working.{wordParameters, allowedParameters}
 use Rattle.refusals.specs.declared.Parameter.{Parameter}
-use Rattle.refusals.specs.declared.Parameter.the-variants.{Strength, Depth, Fill, Allowance, Input, Output, Rate, Tolerance, Start}
+use Rattle.refusals.specs.declared.Parameter.the-variants.{Strength, Depth, Fill, Allowance, Input, Output, Rate, Tolerance, Start, Progress}
 use Rattle.refusals.specs.declared.Verdict.{Verdict}
 use Rattle.refusals.specs.declared.Verdict.the-variants.{Accepted, Refused}
 use Rattle.refusals.proofs.Legal.{word-numbers, allowed-numbers}
 use Rattle.refusals.proofs.Orders.{Begins, first-stops, first-passes, first-accepts}
 
--- Parameters are refused by 1 to 8 and by 11, so by neither 0, which is accepted, nor 9 nor 10, which are not about parameters.
-pub parameter-number : (p : Parameter) → ((0 < parameterNumber p) × (parameterNumber p < 9)) ⊎ (parameterNumber p ≡ 11)
+-- Parameters are refused by 1 to 8, by 11 and by 14, so by neither 0, which is accepted, nor 9 nor 10, which are not about parameters.
+pub parameter-number : (p : Parameter) → ((0 < parameterNumber p) × (parameterNumber p < 9)) ⊎ (10 < parameterNumber p)
 parameter-number Strength = inl (omega arith, omega arith)
 parameter-number Depth = inl (omega arith, omega arith)
 parameter-number Fill = inl (omega arith, omega arith)
@@ -25,7 +26,8 @@ parameter-number Input = inl (omega arith, omega arith)
 parameter-number Output = inl (omega arith, omega arith)
 parameter-number Rate = inl (omega arith, omega arith)
 parameter-number Tolerance = inl (omega arith, omega arith)
-parameter-number Start = inr refl
+parameter-number Start = inr (omega arith)
+parameter-number Progress = inr (omega arith)
 
 pub parameter-nonzero : (p : Parameter) → parameterNumber p ≢ 0
 parameter-nonzero p z = ⊎-elim (λ low. omega arith) (λ last. omega arith) (parameter-number p)
@@ -61,3 +63,16 @@ allowed-words e i q s f = first-accepts (FirstOf (allowance e s ∷ []) 0) (word
 pub same-lengths : (a b c d given out n : ℕ) → a ≡ c → b ≡ d → FirstOf (input given a ∷ output out b ∷ []) n → FirstOf (input given c ∷ output out d ∷ []) n
 same-lengths a b c d given out n p q f =
     subst (λ (x : ℕ). FirstOf (input given x ∷ output out d ∷ []) n) p (subst (λ (y : ℕ). FirstOf (input given a ∷ output out y ∷ []) n) q f)
+
+-- Of a state that is not closed the other part of check 14 decides.
+pub still-open : {other : Type 0} (closed : Bool) → closed ≡ false → (other → ⊥) → (closed ≡ true) ⊎ other → ⊥
+still-open closed e d (inl t) = let z : _≡_ {A = ℕ} 0 1 = cc in absurd (omega arith)
+still-open closed e d (inr o) = d o
+
+-- The length computed, and the flag told: checks 6 and 14 are those of the order.
+pub last-checks : (given a b : ℕ) (unfit : Bool) (due : Type 0) (n : ℕ) → a ≡ b → Tells unfit due → FirstOf (output given a ∷ (14, (unfit ≡ true)) ∷ []) n
+    → FirstOf (output given b ∷ (14, due) ∷ []) n
+last-checks given a b unfit due n e t (inl f) = inl (λ h. f .0 (h ∙ sym e), f .1)
+last-checks given a b unfit due n e t (inr (d, inl f)) = inr (λ h. d (λ k. h (k ∙ e)), inl (subst (λ (flag : Bool). Tells flag due) (f .0) t, f .1))
+last-checks given a b true due n e t (inr (d, inr f)) = absurd (f .0 refl)
+last-checks given a b false due n e t (inr (d, inr f)) = inr (λ h. d (λ k. h (k ∙ e)), inr (t, f .1))

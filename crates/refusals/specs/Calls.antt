@@ -1,9 +1,11 @@
--- The eleven checks, and the order in which each of the eight calls makes them (document 01, "Refusal numbers and the order of checks").
-use mathlib.Core.Logic.{_≢_}
+-- The twelve checks, and the order in which each of the ten calls makes them (document 01, "Refusal numbers and the order of checks"; document 02, (ii)).
+use mathlib.Core.Path.{_≡_}
+use mathlib.Core.Bool.{Bool, true}
+use mathlib.Core.Logic.{_≢_, _⊎_}
 use mathlib.Core.List.{List, [], _∷_, _++_}
-use Prim.Native.Nat.{ℕ, _-_, _*_, _<_}
+use Prim.Native.Nat.{ℕ, _+_, _-_, _*_, _<_}
 use Rattle.refusals.specs.Order.{Check, OneOf}
-use Rattle.refusals.specs.Sizes.{strengths, depths, rates, information, frameLength, blockLength, markedLength, symbolCount, octetsFor}
+use Rattle.refusals.specs.Sizes.{strengths, depths, rates, information, frameLength, blockLength, checksLength, markedLength, symbolCount, octetsFor}
 
 -- The checks, each with its number; 5 has two forms, for a length that is not the one required and for one over the limit.
 abbrev pub strength : ℕ → Check
@@ -42,10 +44,25 @@ word uncorrectable = (10, uncorrectable)
 abbrev pub start : ℕ → ℕ → Check
 start from stream = (11, 8 * stream < from)
 
+-- 14 has two forms: a portion after the close, or one that would pass the frame; a close after the close, or elsewhere than at the frame's end.
+abbrev pub passing : Bool → ℕ → ℕ → Check
+passing closed end frame = (14, (closed ≡ true) ⊎ (frame < end))
+
+abbrev pub unfinished : Bool → ℕ → ℕ → Check
+unfinished closed place frame = (14, (closed ≡ true) ⊎ (place ≢ frame))
+
 -- The orders. A length is called by what it is the length of; `wrong` is the wrong bits of the four marker octets, and
 -- `uncorrectable` says that some word has no codeword with an all-zero fill within the allowance.
 abbrev pub encodeOrder : ℕ → ℕ → ℕ → ℕ → ℕ → List Check
 encodeOrder e i q frame block = strength e ∷ depth i ∷ fill e q ∷ input frame (frameLength e i q) ∷ output block (blockLength i q) ∷ []
+
+abbrev pub portionOrder : ℕ → ℕ → ℕ → ℕ → ℕ → ℕ → Bool → List Check
+portionOrder e i q portion written place closed =
+    strength e ∷ depth i ∷ fill e q ∷ inputOver 300 portion ∷ output written portion ∷ passing closed (place + portion) (frameLength e i q) ∷ []
+
+abbrev pub closeOrder : ℕ → ℕ → ℕ → ℕ → ℕ → Bool → List Check
+closeOrder e i q checks place closed =
+    strength e ∷ depth i ∷ fill e q ∷ output checks (checksLength e i) ∷ unfinished closed place (frameLength e i q) ∷ []
 
 abbrev pub decodeParameters : ℕ → ℕ → ℕ → ℕ → ℕ → ℕ → List Check
 decodeParameters e i q s block frame =

@@ -1,7 +1,7 @@
 -- The number of each refusal and the value that it carries (document 01, "Refusal numbers and the order of checks").
 use Prim.Native.Nat.{ℕ}
 use Rattle.refusals.specs.declared.Parameter.{Parameter}
-use Rattle.refusals.specs.declared.Parameter.the-variants.{Strength, Depth, Fill, Allowance, Input, Output, Rate, Tolerance, Start}
+use Rattle.refusals.specs.declared.Parameter.the-variants.{Strength, Depth, Fill, Allowance, Input, Output, Rate, Tolerance, Start, Progress}
 use Rattle.refusals.specs.declared.Verdict.{Verdict}
 use Rattle.refusals.specs.declared.Verdict.the-variants.{Accepted, Refused}
 use Rattle.refusals.specs.declared.MarkerRefusal.{MarkerRefusal}
@@ -19,6 +19,7 @@ parameterNumber Output = 6
 parameterNumber Rate = 7
 parameterNumber Tolerance = 8
 parameterNumber Start = 11
+parameterNumber Progress = 14
 
 abbrev pub verdictNumber : Verdict → ℕ
 verdictNumber Accepted = 0

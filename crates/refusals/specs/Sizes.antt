@@ -17,12 +17,15 @@ rates = 1 ∷ 2 ∷ 3 ∷ 4 ∷ 5 ∷ []
 abbrev pub information : ℕ → ℕ
 information e = 255 - 2 * e
 
--- The octets of a frame, a block and a marked block, at depth i with fill q.
+-- The octets of a frame, a block, its checks and a marked block, at depth i with fill q.
 abbrev pub frameLength : ℕ → ℕ → ℕ → ℕ
 frameLength e i q = (information e - q) * i
 
 abbrev pub blockLength : ℕ → ℕ → ℕ
 blockLength i q = (255 - q) * i
+
+abbrev pub checksLength : ℕ → ℕ → ℕ
+checksLength e i = 2 * e * i
 
 abbrev pub markedLength : ℕ → ℕ → ℕ
 markedLength i q = blockLength i q + 4

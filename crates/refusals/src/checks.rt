@@ -50,7 +50,7 @@ fn rate_legal(rate: u32) -> bool
 }
 
 // Checks 1, 2 and 3, with which every call on words begins.
-fn word_parameters(e: u32, depth: u32, fill: u32) -> Verdict
+pub(crate) fn word_parameters(e: u32, depth: u32, fill: u32) -> Verdict
     ensures { λ r. ⌜ FirstOf (wordParameters e depth fill) (verdictNumber r) ⌝ }
 {
     if !strength_legal(e) {
@@ -84,14 +84,14 @@ fn lengths(
 }
 
 // So many octets of each of the words.
-fn interleaved(symbols: u32, depth: u32) -> usize
+pub(crate) fn interleaved(symbols: u32, depth: u32) -> usize
     requires { ⌜ (symbols ≤ 255) × (depth ≤ 8) ⌝ }
     ensures { λ r. ⌜ (r ≡ symbols * depth) × (r ≤ 2040) ⌝ }
 {
     (symbols * depth) as usize
 }
 
-fn frame_length(e: u32, depth: u32, fill: u32) -> usize
+pub(crate) fn frame_length(e: u32, depth: u32, fill: u32) -> usize
     requires { ⌜ FirstOf (wordParameters e depth fill) 0 ⌝ }
     ensures { λ r. ⌜ r ≡ frameLength e depth fill ⌝ }
 {

@@ -1,6 +1,7 @@
 // The refusals of document 01: their names and numbers, and the checks of parameters and lengths that the calls share.
 mod checks;
 mod numbers;
+mod portions;
 
 pub use checks::convolve_parameters;
 pub use checks::decode_parameters;
@@ -14,8 +15,10 @@ pub use checks::transmit_parameters;
 pub use numbers::marker_number;
 pub use numbers::parameter_number;
 pub use numbers::verdict_number;
+pub use portions::close_parameters;
+pub use portions::portion_parameters;
 
-// A parameter or a length that is not legal.
+// A parameter or a length that is not legal, or a state that has not come so far or is past it.
 pub enum Parameter {
     Strength,
     Depth,
@@ -26,6 +29,7 @@ pub enum Parameter {
     Rate,
     Tolerance,
     Start,
+    Progress,
 }
 
 // The answer of a call that is refused for a parameter or a length only.

@@ -18,6 +18,7 @@ pub fn parameter_number(p: Parameter) -> u64
         Parameter::Rate => 7,
         Parameter::Tolerance => 8,
         Parameter::Start => 11,
+        Parameter::Progress => 14,
     }
 }
 

@@ -32,8 +32,8 @@ legal c = search (encode-legal, passed)
 table-of-requires : tie.Need-table-of-requires
 table-of-requires c κs = legal c .words .strength
 
-rows-of-requires : tie.Need-rows-of-requires
-rows-of-requires c κs = (omega (arith, legal (c .before .before) .words .some), legal (c .before .before) .words .deep)
+rows-on-requires : tie.Need-rows-on-requires
+rows-on-requires c κs = (omega (arith, legal (c .before .before) .words .some), legal (c .before .before) .words .deep)
 
 copy-front-requires : tie.Need-copy-front-requires
 copy-front-requires c κs = search needs
@@ -53,7 +53,7 @@ encode-spec =
     returns
     enum-told
     table-of-requires
-    rows-of-requires
+    rows-on-requires
     copy-front-requires
     put-checks-requires
     same-length

@@ -1,4 +1,4 @@
--- `rows_of` lets each octet enter the row of its word: the words before the next one have one symbol more than it has.
+-- `rows_on` lets each octet enter the row of its word: the rows are those that the octets so far have entered.
 use mathlib.Core.Path.{refl}
 use mathlib.Core.Logic.{⊎-elim}
 use Prim.Native.Nat.{_≤_, _-_}
@@ -6,17 +6,17 @@ use native.Mathlib.Omega.{arith}
 use lib.ListN.{length}
 use Rattle.reed_solomon.proofs.RowTurns.{Turn, turn-start, turn-symbol, turn-word, turn-end}
 use borrow.Author.Needs.{needs}
-use Rattle.reed_solomon.proofs.encoder.rows_of.Statement.{statement}
-use Rattle.reed_solomon.proofs.encoder.rows_of.Tie as tie
+use Rattle.reed_solomon.proofs.encoder.rows_on.Statement.{statement}
+use Rattle.reed_solomon.proofs.encoder.rows_on.Tie as tie
 
 abbrev Inv-loop : tie.InvT-loop
-Inv-loop table frame depth rows₀ word₀ n at₀ rows word at = (at ≤ length frame) × Turn table depth frame at word rows
+Inv-loop table first symbols depth rows₀ word₀ n at₀ rows word at = (at ≤ length symbols) × Turn table depth first rows₀ symbols at word rows
 
 abbrev μ-loop : tie.MeasureT-loop
-μ-loop table frame depth rows₀ word₀ n at₀ rows word at = length frame - at
+μ-loop table first symbols depth rows₀ word₀ n at₀ rows word at = length symbols - at
 
 loop-holds : tie.Need-loop-holds Inv-loop μ-loop
-loop-holds c = (omega arith, turn-start _ _ _ (omega arith) (omega arith))
+loop-holds c = (omega arith, turn-start _ _ _ _ _ (omega arith) (search needs))
 
 mul-row : tie.Need-mul-row Inv-loop μ-loop
 mul-row c = search needs
@@ -49,16 +49,16 @@ loop-again : tie.Need-loop-again Inv-loop μ-loop
 loop-again c = (
   omega arith,
   ⊎-elim
-      (λ w. turn-symbol _ _ _ (omega arith) _ (c .before .before .before .before .before .loop .word) _ _ _ (c .before .before .before .before .before .loop .inv .1) refl (c .before .stepped .ensures) _ (w .1) (w .0 .taken))
-      (λ w. turn-word _ _ _ (omega arith) _ (c .before .before .before .before .before .loop .word) _ _ _ (c .before .before .before .before .before .loop .inv .1) refl (c .before .stepped .ensures) _ (w .1) (w .0 .left))
+      (λ w. turn-symbol _ _ _ _ _ _ (c .before .before .before .before .before .loop .word) _ _ _ (c .before .before .before .before .before .loop .inv .1) (omega arith) refl (c .before .stepped .ensures) _ (w .1) (w .0 .taken))
+      (λ w. turn-word _ _ _ _ _ _ (c .before .before .before .before .before .loop .word) _ _ _ (c .before .before .before .before .before .loop .inv .1) (omega arith) refl (c .before .stepped .ensures) _ (w .1) (w .0 .left))
       (c .if1 .came),
 )
 
 returns : tie.Need-returns Inv-loop μ-loop
-returns c = turn-end _ _ _ (omega arith) (c .before .loop .at) _ _ (omega arith) (c .before .loop .inv .1)
+returns c = turn-end _ _ _ _ _ (c .before .loop .at) _ _ (omega arith) (c .before .loop .inv .1)
 
-pub rows-of-spec : {M : Type 1} → statement M
-rows-of-spec =
+pub rows-on-spec : {M : Type 1} → statement M
+rows-on-spec =
     tie.close
     (tie.spec
     Inv-loop

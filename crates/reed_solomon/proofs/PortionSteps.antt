@@ -1,0 +1,160 @@
+-- What is known once every check of a portion or a close has passed; so both keep what they promise.
+use mathlib.Core.Path.{_≡_, refl, sym, ap, ap₂, _∙_}
+use mathlib.Core.Bool.{Bool, true, false}
+use mathlib.Core.Logic.{inl, inr}
+use mathlib.Core.List.{List, []}
+use Prim.Native.Nat.{ℕ, _+_, _-_, _*_, _%_, _≤_, _<_}
+use native.Mathlib.Nat.{zero-add, mul-le-mul, mul-le-mul-right}
+use native.Mathlib.Omega.{arith}
+use lib.ListN.{length, take, getD}
+use lib.Seq.{take-all}
+use Rattle.octets.specs.Copies.{copiedOver}
+use Rattle.octets.proofs.Laws.{copied-length, copied-front}
+use Rattle.refusals.specs.Order.{FirstOf}
+use Rattle.refusals.specs.Sizes.{frameLength, checksLength}
+use Rattle.refusals.specs.Calls.{portionOrder, closeOrder}
+use Rattle.refusals.specs.Numbers.{verdictNumber}
+use Rattle.refusals.specs.declared.Parameter.{Parameter}
+use Rattle.refusals.specs.declared.Verdict.{Verdict}
+use Rattle.refusals.specs.declared.Verdict.the-variants.{Accepted, Refused}
+use Rattle.refusals.proofs.Orders.{Clear, accepted-clear, not-different}
+use Rattle.refusals.proofs.Legal.{LegalWords, legal-words}
+use Rattle.refusals.proofs.Verdicts.{parameter-nonzero, same-verdict, passed}
+use Rattle.reed_solomon.specs.declared.Row.{Row}
+use Rattle.reed_solomon.specs.declared.Progress.{Progress}
+use Rattle.reed_solomon.specs.Rows.{inRow, rowsEntered}
+use Rattle.reed_solomon.specs.EncoderWorking.{StrengthTable, RowsOn, ChecksPut}
+use Rattle.reed_solomon.specs.Portions.{octetRows, heldRows, taken, closing, PortionOutcome, Checks, CloseOutcome}
+use Rattle.reed_solomon.proofs.Interleaving.{place-below}
+use Rattle.reed_solomon.proofs.CheckRows.{long-row}
+
+not-true : (flag : Bool) → (flag ≡ true → ⊥) → flag ≡ false
+not-true true n = absurd (n refl)
+not-true false n = refl
+
+-- ---- a portion
+
+pub record PortionLegal (e i q portion written place : ℕ) (closed : Bool) : Type 0 where
+  pub words : LegalWords e i q
+  pub small : portion ≤ 300
+  pub output : written ≡ portion
+  pub unclosed : closed ≡ false
+  pub within : place + portion ≤ frameLength e i q
+
+pub portion-legal : (e i q portion written place : ℕ) (closed : Bool) (v : Verdict) → v ≡ Accepted
+    → FirstOf (portionOrder e i q portion written place closed) (verdictNumber v) → PortionLegal e i q portion written place closed
+portion-legal e i q portion written place closed v accepts first =
+    record {
+      words = legal-words e i q (clear .0, (clear .1 .0, (clear .1 .1 .0, tt)));
+      small = omega (arith, clear .1 .1 .1 .0);
+      output = not-different written portion (clear .1 .1 .1 .1 .0);
+      unclosed = not-true closed (λ t. clear .1 .1 .1 .1 .1 .0 (inl t));
+      within = let fits : frameLength e i q < place + portion → ⊥ = λ h. clear .1 .1 .1 .1 .1 .0 (inr h) in omega arith;
+    }
+  where
+    clear : Clear (portionOrder e i q portion written place closed)
+    clear =
+        accepted-clear (portionOrder e i q portion written place closed) (omega arith, (omega arith, (omega arith, (omega arith, (omega arith, (omega arith, tt))))))
+        (passed (portionOrder e i q portion written place closed) v accepts first)
+
+-- a place within a frame is small
+pub place-small : (e i q portion written place : ℕ) (closed : Bool) → PortionLegal e i q portion written place closed → place + portion ≤ 2040
+place-small e i q portion written place closed legal = omega (arith, legal .within, mul-le-mul few (legal .words .deep))
+  where
+    few : 255 - 2 * e - q ≤ 255
+    few = omega arith
+
+module _ (e i q : ℕ) (state : Progress) (portion before : List ℕ) (v : Verdict)
+    (first : FirstOf (portionOrder e i q (length portion) (length before) (state .place) (state .closed)) (verdictNumber v)) where
+  pub portion-refuses : (p : Parameter) → v ≡ Refused p → PortionOutcome e i q state portion before (Refused p) state before
+  portion-refuses p refuses =
+      record {
+        number = same-verdict (portionOrder e i q (length portion) (length before) (state .place) (state .closed)) v (Refused p) refuses first;
+        refused = λ n. (refl, refl);
+        accepted = λ n. absurd (parameter-nonzero p n);
+      }
+
+  module _ (table : List ℕ) (rows after : List (List ℕ)) (held : List Row) (word place : ℕ) (out : List ℕ) (accepts : v ≡ Accepted) (T : StrengthTable e table)
+      (M : place ≡ state .place + length portion) (U : rows ≡ octetRows (state .rows)) (W : state .place % i ≡ word) (R : RowsOn table i word rows portion after) (H : held ≡ heldRows after)
+      (P : out ≡ copiedOver portion before) where
+    legal : PortionLegal e i q (length portion) (length before) (state .place) (state .closed)
+    legal = portion-legal e i q (length portion) (length before) (state .place) (state .closed) v accepts first
+
+    next-is : record { place = place; closed = state .closed; rows = held } ≡ taken e i state portion
+    next-is =
+        ap₂ {C = Progress} (λ (n : ℕ) (list : List Row). record { place = n; closed = state .closed; rows = list }) M
+        (H ∙ ap heldRows (R (inRow e) (long-row e (legal .words .strength)) T (state .place) W)
+        ∙ ap (λ (list : List (List ℕ)). heldRows (rowsEntered (inRow e) i (state .place) list portion)) U)
+
+    written-is : out ≡ portion
+    written-is =
+        sym (take-all (length portion) out (omega (arith, ap length P, copied-length portion before, legal .output)))
+        ∙ ap (take (length portion)) P ∙ copied-front portion before (omega (arith, legal .output))
+
+    pub portion-accepts : PortionOutcome e i q state portion before Accepted (record { place = place; closed = state .closed; rows = held }) out
+    portion-accepts =
+        record {
+          number = same-verdict (portionOrder e i q (length portion) (length before) (state .place) (state .closed)) v Accepted accepts first;
+          refused = λ n. absurd (n refl);
+          accepted = λ n. (next-is, written-is);
+        }
+
+-- ---- a close
+
+pub record CloseLegal (e i q checks place : ℕ) (closed : Bool) : Type 0 where
+  pub words : LegalWords e i q
+  pub output : checks ≡ checksLength e i
+  pub unclosed : closed ≡ false
+  pub whole : place ≡ frameLength e i q
+
+pub close-legal : (e i q checks place : ℕ) (closed : Bool) (v : Verdict) → v ≡ Accepted
+    → FirstOf (closeOrder e i q checks place closed) (verdictNumber v) → CloseLegal e i q checks place closed
+close-legal e i q checks place closed v accepts first =
+    record {
+      words = legal-words e i q (clear .0, (clear .1 .0, (clear .1 .1 .0, tt)));
+      output = not-different checks (checksLength e i) (clear .1 .1 .1 .0);
+      unclosed = not-true closed (λ t. clear .1 .1 .1 .1 .0 (inl t));
+      whole = not-different place (frameLength e i q) (λ h. clear .1 .1 .1 .1 .0 (inr h));
+    }
+  where
+    clear : Clear (closeOrder e i q checks place closed)
+    clear =
+        accepted-clear (closeOrder e i q checks place closed) (omega arith, (omega arith, (omega arith, (omega arith, (omega arith, tt)))))
+        (passed (closeOrder e i q checks place closed) v accepts first)
+
+pub close-room : (e i q checks place : ℕ) (closed : Bool) → CloseLegal e i q checks place closed → (0 < i) × (i ≤ 8) × (0 ≤ checks) × (checks ≤ 0 + 32 * i)
+close-room e i q checks place closed legal =
+    (omega (arith, legal .words .some), legal .words .deep, omega arith, omega (arith, legal .output, mul-le-mul-right i few))
+  where
+    few : 2 * e ≤ 32
+    few = omega (arith, legal .words .strong)
+
+module _ (e i q : ℕ) (state : Progress) (before : List ℕ) (v : Verdict)
+    (first : FirstOf (closeOrder e i q (length before) (state .place) (state .closed)) (verdictNumber v)) where
+  pub close-refuses : (p : Parameter) → v ≡ Refused p → CloseOutcome e i q state before (Refused p) state before
+  close-refuses p refuses =
+      record {
+        number = same-verdict (closeOrder e i q (length before) (state .place) (state .closed)) v (Refused p) refuses first;
+        refused = λ n. (refl, refl);
+        accepted = λ n. absurd (parameter-nonzero p n);
+      }
+
+  module _ (rows : List (List ℕ)) (after : List ℕ) (accepts : v ≡ Accepted) (U : rows ≡ octetRows (state .rows)) (C : ChecksPut rows i 0 before after) where
+    legal-close : CloseLegal e i q (length before) (state .place) (state .closed)
+    legal-close = close-legal e i q (length before) (state .place) (state .closed) v accepts first
+
+    checks-are : Checks e i (octetRows (state .rows)) after
+    checks-are =
+        record {
+          size = C .size ∙ legal-close .output;
+          octet = λ j w l h. ap (λ (n : ℕ). getD after n 0) (sym (zero-add (j * i + w)))
+              ∙ C .checks j w h (omega (arith, legal-close .output, place-below i j (2 * e) w (omega arith) h)) ∙ ap (λ (list : List (List ℕ)). getD (getD list w []) j 0) U;
+        }
+
+    pub close-accepts : CloseOutcome e i q state before Accepted (closing state) after
+    close-accepts =
+        record {
+          number = same-verdict (closeOrder e i q (length before) (state .place) (state .closed)) v Accepted accepts first;
+          refused = λ n. absurd (n refl);
+          accepted = λ n. (refl, checks-are);
+        }
