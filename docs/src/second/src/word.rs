@@ -19,18 +19,33 @@ fn generator(e: usize) -> Vec<u8> {
     })
 }
 
-/// The remainder of the information symbols, 2E places up, after division by the generator.
-pub fn checks(e: usize, information: &[u8]) -> Vec<u8> {
-    let generator = generator(e);
-    let mut dividend = information.to_vec();
-    dividend.resize(information.len() + 2 * e, 0);
-    for place in 0..information.len() {
+/// The last coefficients of a dividend, highest power first, after so many steps of division by a divisor whose first is 1.
+fn divided(mut dividend: Vec<u8>, divisor: &[u8], steps: usize) -> Vec<u8> {
+    for place in 0..steps {
         let lead = dividend[place];
-        for (k, g) in generator.iter().enumerate() {
-            dividend[place + k] ^= product(lead, *g);
+        for (k, c) in divisor.iter().enumerate() {
+            dividend[place + k] ^= product(lead, *c);
         }
     }
-    dividend.split_off(information.len())
+    dividend.split_off(steps)
+}
+
+/// The remainder of the information symbols, 2E places up, after division by the generator.
+pub fn checks(e: usize, information: &[u8]) -> Vec<u8> {
+    let mut dividend = information.to_vec();
+    dividend.resize(information.len() + 2 * e, 0);
+    divided(dividend, &generator(e), information.len())
+}
+
+/// What further symbols make of a row of 32 that stands in for those before them: the row as many places up as there are symbols, and the
+/// symbols 32 places up, divided by the generator 32 - 2E places up.
+pub fn further(e: usize, row: &[u8], symbols: &[u8]) -> Vec<u8> {
+    let mut dividend = symbols.to_vec();
+    dividend.resize(symbols.len() + 32, 0);
+    dividend.iter_mut().zip(row).for_each(|(sum, octet)| *sum ^= octet);
+    let mut divisor = generator(e);
+    divisor.resize(33, 0);
+    divided(dividend, &divisor, symbols.len())
 }
 
 /// X of a place, alpha^(11 (254 - place)): a word's value at alpha^(11 j) is the sum of its symbols times X^j.
