@@ -24,9 +24,9 @@ use Rattle.codewords.specs.Words.{Codeword, withFill}
 use Rattle.reed_solomon.specs.Blocks.{sentFrom, wordOf}
 use Rattle.reed_solomon.specs.Outcome.{Coded, EncodeOutcome}
 use Rattle.reed_solomon.specs.Rows.{inRow, rowsEntered, noRows}
-use Rattle.reed_solomon.specs.EncoderWorking.{StrengthTable, rowAfter, RowsOn, ChecksPut}
+use Rattle.reed_solomon.specs.EncoderWorking.{rowAfter, RowsOn, ChecksPut}
 use Rattle.reed_solomon.proofs.Interleaving.{sent-is, sent-++, sent-information, place-below}
-use Rattle.reed_solomon.proofs.CheckRows.{long-row, row-front-size, row-codeword}
+use Rattle.reed_solomon.proofs.CheckRows.{row-front-size, row-codeword}
 use Rattle.reed_solomon.proofs.RowTurns.{frame-rows}
 
 -- ---- what is known once every check of encode has passed
@@ -112,14 +112,12 @@ module _ (e i q : ℕ) (frame after : List ℕ) (words : LegalWords e i q) (whol
 pub record ChecksWritten (e i : ℕ) (frame after : List ℕ) : Type 0 where
   pub put : List ℕ
   pub rows : List (List ℕ)
-  pub table : List ℕ
-  pub listed : StrengthTable e table
-  pub done : RowsOn table i 0 noRows frame rows
+  pub done : RowsOn e i 0 noRows frame rows
   pub checks : ChecksPut rows i (length frame) put after
 
-abbrev pub checks-written : (e i : ℕ) (frame after put : List ℕ) (rows : List (List ℕ)) (table : List ℕ) → StrengthTable e table → RowsOn table i 0 noRows frame rows
+abbrev pub checks-written : (e i : ℕ) (frame after put : List ℕ) (rows : List (List ℕ)) → RowsOn e i 0 noRows frame rows
     → ChecksPut rows i (length frame) put after → ChecksWritten e i frame after
-checks-written e i frame after put rows table T R C = record { put = put; rows = rows; table = table; listed = T; done = R; checks = C }
+checks-written e i frame after put rows R C = record { put = put; rows = rows; done = R; checks = C }
 
 -- what a slice of octets is known to hold
 pub octets-known : (frame : List ℕ) → ((m : ℕ) → Fits w8 (getD frame m 0)) → (m : ℕ) → getD frame m 0 < 256
@@ -153,7 +151,7 @@ module _ (e i q : ℕ) (frame before after : List ℕ) where
       fits = checks-fit e i q (length frame) (length before) legal
 
       rows-are : W .rows ≡ rowsEntered (inRow e) i 0 noRows frame
-      rows-are = W .done (inRow e) (long-row e (legal .words .strength)) (W .listed) 0 (mod-eq-of-lt (omega (arith, legal .words .some)))
+      rows-are = W .done 0 (mod-eq-of-lt (omega (arith, legal .words .some)))
 
       coded : Coded e i q frame after
       coded =

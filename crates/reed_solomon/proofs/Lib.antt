@@ -1,6 +1,6 @@
 -- The laws of the Reed-Solomon coder, and the conditions of acceptance.
 pub mod Filling
-pub mod Mapping
+pub mod Eight
 pub mod StepTables
 pub mod Interleaving
 pub mod CheckRows

@@ -19,14 +19,13 @@ use Rattle.refusals.specs.declared.Verdict.{Verdict}
 use Rattle.refusals.specs.declared.Verdict.the-variants.{Accepted, Refused}
 use Rattle.refusals.proofs.Orders.{Clear, accepted-clear, not-different}
 use Rattle.refusals.proofs.Legal.{LegalWords, legal-words}
-use Rattle.refusals.proofs.Verdicts.{parameter-nonzero, same-verdict, passed}
+use Rattle.refusals.proofs.Verdicts.{parameter-nonzero, same-verdict}
 use Rattle.reed_solomon.specs.declared.Row.{Row}
 use Rattle.reed_solomon.specs.declared.Progress.{Progress}
 use Rattle.reed_solomon.specs.Rows.{inRow, rowsEntered}
-use Rattle.reed_solomon.specs.EncoderWorking.{StrengthTable, RowsOn, ChecksPut}
+use Rattle.reed_solomon.specs.EncoderWorking.{RowsOn, ChecksPut}
 use Rattle.reed_solomon.specs.Portions.{octetRows, heldRows, taken, closing, PortionOutcome, Checks, CloseOutcome}
 use Rattle.reed_solomon.proofs.Interleaving.{place-below}
-use Rattle.reed_solomon.proofs.CheckRows.{long-row}
 
 not-true : (flag : Bool) → (flag ≡ true → ⊥) → flag ≡ false
 not-true true n = absurd (n refl)
@@ -41,9 +40,9 @@ pub record PortionLegal (e i q portion written place : ℕ) (closed : Bool) : Ty
   pub unclosed : closed ≡ false
   pub within : place + portion ≤ frameLength e i q
 
-pub portion-legal : (e i q portion written place : ℕ) (closed : Bool) (v : Verdict) → v ≡ Accepted
-    → FirstOf (portionOrder e i q portion written place closed) (verdictNumber v) → PortionLegal e i q portion written place closed
-portion-legal e i q portion written place closed v accepts first =
+pub portion-legal : (e i q portion written place : ℕ) (closed : Bool) → FirstOf (portionOrder e i q portion written place closed) 0
+    → PortionLegal e i q portion written place closed
+portion-legal e i q portion written place closed first =
     record {
       words = legal-words e i q (clear .0, (clear .1 .0, (clear .1 .1 .0, tt)));
       small = omega (arith, clear .1 .1 .1 .0);
@@ -54,8 +53,8 @@ portion-legal e i q portion written place closed v accepts first =
   where
     clear : Clear (portionOrder e i q portion written place closed)
     clear =
-        accepted-clear (portionOrder e i q portion written place closed) (omega arith, (omega arith, (omega arith, (omega arith, (omega arith, (omega arith, tt))))))
-        (passed (portionOrder e i q portion written place closed) v accepts first)
+        accepted-clear (portionOrder e i q portion written place closed)
+        (omega arith, (omega arith, (omega arith, (omega arith, (omega arith, (omega arith, tt)))))) first
 
 -- a place within a frame is small
 pub place-small : (e i q portion written place : ℕ) (closed : Bool) → PortionLegal e i q portion written place closed → place + portion ≤ 2040
@@ -64,40 +63,39 @@ place-small e i q portion written place closed legal = omega (arith, legal .with
     few : 255 - 2 * e - q ≤ 255
     few = omega arith
 
-module _ (e i q : ℕ) (state : Progress) (portion before : List ℕ) (v : Verdict)
-    (first : FirstOf (portionOrder e i q (length portion) (length before) (state .place) (state .closed)) (verdictNumber v)) where
-  pub portion-refuses : (p : Parameter) → v ≡ Refused p → PortionOutcome e i q state portion before (Refused p) state before
-  portion-refuses p refuses =
+-- the parts of the state that a portion leaves
+pub taken-is : (e i : ℕ) (state : Progress) (portion : List ℕ) (place word : ℕ) (rows after : List (List ℕ)) (held : List Row) → place ≡ state .place + length portion
+    → state .place % i ≡ word → rows ≡ octetRows (state .rows) → RowsOn e i word rows portion after → held ≡ heldRows after
+    → record { place = place; closed = state .closed; rows = held } ≡ taken e i state portion
+taken-is e i state portion place word rows after held moved at unpacked entered packed =
+    ap₂ {C = Progress} (λ (n : ℕ) (list : List Row). record { place = n; closed = state .closed; rows = list }) moved
+    (packed ∙ ap heldRows (entered (state .place) at)
+    ∙ ap (λ (list : List (List ℕ)). heldRows (rowsEntered (inRow e) i (state .place) list portion)) unpacked)
+
+module _ (e i q : ℕ) (state : Progress) (portion before : List ℕ) where
+  pub portion-refuses : (v : Verdict) (p : Parameter) → v ≡ Refused p
+      → FirstOf (portionOrder e i q (length portion) (length before) (state .place) (state .closed)) (verdictNumber v)
+      → PortionOutcome e i q state portion before (Refused p) state before
+  portion-refuses v p refuses first =
       record {
         number = same-verdict (portionOrder e i q (length portion) (length before) (state .place) (state .closed)) v (Refused p) refuses first;
         refused = λ n. (refl, refl);
         accepted = λ n. absurd (parameter-nonzero p n);
       }
 
-  module _ (table : List ℕ) (rows after : List (List ℕ)) (held : List Row) (word place : ℕ) (out : List ℕ) (accepts : v ≡ Accepted) (T : StrengthTable e table)
-      (M : place ≡ state .place + length portion) (U : rows ≡ octetRows (state .rows)) (W : state .place % i ≡ word) (R : RowsOn table i word rows portion after) (H : held ≡ heldRows after)
-      (P : out ≡ copiedOver portion before) where
-    legal : PortionLegal e i q (length portion) (length before) (state .place) (state .closed)
-    legal = portion-legal e i q (length portion) (length before) (state .place) (state .closed) v accepts first
+  pub portion-accepts : (next : Progress) (after : List ℕ)
+      → FirstOf (portionOrder e i q (length portion) (length before) (state .place) (state .closed)) 0 → next ≡ taken e i state portion
+      → after ≡ copiedOver portion before → PortionOutcome e i q state portion before Accepted next after
+  portion-accepts next after first next-is copied =
+      record { number = first; refused = λ n. absurd (n refl); accepted = λ n. (next-is, written-is) }
+    where
+      fits : length before ≡ length portion
+      fits = portion-legal e i q (length portion) (length before) (state .place) (state .closed) first .output
 
-    next-is : record { place = place; closed = state .closed; rows = held } ≡ taken e i state portion
-    next-is =
-        ap₂ {C = Progress} (λ (n : ℕ) (list : List Row). record { place = n; closed = state .closed; rows = list }) M
-        (H ∙ ap heldRows (R (inRow e) (long-row e (legal .words .strength)) T (state .place) W)
-        ∙ ap (λ (list : List (List ℕ)). heldRows (rowsEntered (inRow e) i (state .place) list portion)) U)
-
-    written-is : out ≡ portion
-    written-is =
-        sym (take-all (length portion) out (omega (arith, ap length P, copied-length portion before, legal .output)))
-        ∙ ap (take (length portion)) P ∙ copied-front portion before (omega (arith, legal .output))
-
-    pub portion-accepts : PortionOutcome e i q state portion before Accepted (record { place = place; closed = state .closed; rows = held }) out
-    portion-accepts =
-        record {
-          number = same-verdict (portionOrder e i q (length portion) (length before) (state .place) (state .closed)) v Accepted accepts first;
-          refused = λ n. absurd (n refl);
-          accepted = λ n. (next-is, written-is);
-        }
+      written-is : after ≡ portion
+      written-is =
+          sym (take-all (length portion) after (omega (arith, ap length copied, copied-length portion before, fits)))
+          ∙ ap (take (length portion)) copied ∙ copied-front portion before (omega (arith, fits))
 
 -- ---- a close
 
@@ -107,9 +105,8 @@ pub record CloseLegal (e i q checks place : ℕ) (closed : Bool) : Type 0 where
   pub unclosed : closed ≡ false
   pub whole : place ≡ frameLength e i q
 
-pub close-legal : (e i q checks place : ℕ) (closed : Bool) (v : Verdict) → v ≡ Accepted
-    → FirstOf (closeOrder e i q checks place closed) (verdictNumber v) → CloseLegal e i q checks place closed
-close-legal e i q checks place closed v accepts first =
+pub close-legal : (e i q checks place : ℕ) (closed : Bool) → FirstOf (closeOrder e i q checks place closed) 0 → CloseLegal e i q checks place closed
+close-legal e i q checks place closed first =
     record {
       words = legal-words e i q (clear .0, (clear .1 .0, (clear .1 .1 .0, tt)));
       output = not-different checks (checksLength e i) (clear .1 .1 .1 .0);
@@ -118,9 +115,7 @@ close-legal e i q checks place closed v accepts first =
     }
   where
     clear : Clear (closeOrder e i q checks place closed)
-    clear =
-        accepted-clear (closeOrder e i q checks place closed) (omega arith, (omega arith, (omega arith, (omega arith, (omega arith, tt)))))
-        (passed (closeOrder e i q checks place closed) v accepts first)
+    clear = accepted-clear (closeOrder e i q checks place closed) (omega arith, (omega arith, (omega arith, (omega arith, (omega arith, tt))))) first
 
 pub close-room : (e i q checks place : ℕ) (closed : Bool) → CloseLegal e i q checks place closed → (0 < i) × (i ≤ 8) × (0 ≤ checks) × (checks ≤ 0 + 32 * i)
 close-room e i q checks place closed legal =
@@ -129,32 +124,29 @@ close-room e i q checks place closed legal =
     few : 2 * e ≤ 32
     few = omega (arith, legal .words .strong)
 
-module _ (e i q : ℕ) (state : Progress) (before : List ℕ) (v : Verdict)
-    (first : FirstOf (closeOrder e i q (length before) (state .place) (state .closed)) (verdictNumber v)) where
-  pub close-refuses : (p : Parameter) → v ≡ Refused p → CloseOutcome e i q state before (Refused p) state before
-  close-refuses p refuses =
+module _ (e i q : ℕ) (state : Progress) (before : List ℕ) where
+  pub close-refuses : (v : Verdict) (p : Parameter) → v ≡ Refused p → FirstOf (closeOrder e i q (length before) (state .place) (state .closed)) (verdictNumber v)
+      → CloseOutcome e i q state before (Refused p) state before
+  close-refuses v p refuses first =
       record {
         number = same-verdict (closeOrder e i q (length before) (state .place) (state .closed)) v (Refused p) refuses first;
         refused = λ n. (refl, refl);
         accepted = λ n. absurd (parameter-nonzero p n);
       }
 
-  module _ (rows : List (List ℕ)) (after : List ℕ) (accepts : v ≡ Accepted) (U : rows ≡ octetRows (state .rows)) (C : ChecksPut rows i 0 before after) where
-    legal-close : CloseLegal e i q (length before) (state .place) (state .closed)
-    legal-close = close-legal e i q (length before) (state .place) (state .closed) v accepts first
+  pub close-accepts : (rows : List (List ℕ)) (after : List ℕ) → FirstOf (closeOrder e i q (length before) (state .place) (state .closed)) 0
+      → rows ≡ octetRows (state .rows) → ChecksPut rows i 0 before after → CloseOutcome e i q state before Accepted (closing state) after
+  close-accepts rows after first unpacked put =
+      record { number = first; refused = λ n. absurd (n refl); accepted = λ n. (refl, checks-are) }
+    where
+      fits : length before ≡ checksLength e i
+      fits = close-legal e i q (length before) (state .place) (state .closed) first .output
 
-    checks-are : Checks e i (octetRows (state .rows)) after
-    checks-are =
-        record {
-          size = C .size ∙ legal-close .output;
-          octet = λ j w l h. ap (λ (n : ℕ). getD after n 0) (sym (zero-add (j * i + w)))
-              ∙ C .checks j w h (omega (arith, legal-close .output, place-below i j (2 * e) w (omega arith) h)) ∙ ap (λ (list : List (List ℕ)). getD (getD list w []) j 0) U;
-        }
-
-    pub close-accepts : CloseOutcome e i q state before Accepted (closing state) after
-    close-accepts =
-        record {
-          number = same-verdict (closeOrder e i q (length before) (state .place) (state .closed)) v Accepted accepts first;
-          refused = λ n. absurd (n refl);
-          accepted = λ n. (refl, checks-are);
-        }
+      checks-are : Checks e i (octetRows (state .rows)) after
+      checks-are =
+          record {
+            size = put .size ∙ fits;
+            octet = λ j w l h. ap (λ (n : ℕ). getD after n 0) (sym (zero-add (j * i + w)))
+                ∙ put .checks j w h (omega (arith, fits, place-below i j (2 * e) w (omega arith) h))
+                ∙ ap (λ (list : List (List ℕ)). getD (getD list w []) j 0) unpacked;
+          }

@@ -18,7 +18,7 @@ use Rattle.refusals.specs.declared.Verdict.{Verdict}
 use Rattle.refusals.specs.declared.Verdict.the-variants.{Accepted}
 use Rattle.refusals.proofs.Orders.{Clear, clear-accepted}
 use Rattle.refusals.proofs.Legal.{LegalWords}
-use Rattle.refusals.proofs.Verdicts.{still-open}
+use Rattle.refusals.proofs.Verdicts.{still-open, passed}
 use Rattle.refusals.proofs.Settled.{verdict-known, verdict-settled, encode-parameters-settled}
 use Rattle.codewords.specs.Words.{Octets, withFill}
 use Rattle.reed_solomon.specs.declared.Row.{Row}
@@ -74,7 +74,7 @@ portion-accepted e i q portion written place closed legal small fits unclosed wi
 
 module _ (e i q : ℕ) (state : Progress) (portion before : List ℕ) (next : Progress) (after : List ℕ) (P : PortionOutcome e i q state portion before Accepted next after) where
   abbrev legal-portion : PortionLegal e i q (length portion) (length before) (state .place) (state .closed)
-  legal-portion = portion-legal e i q (length portion) (length before) (state .place) (state .closed) Accepted refl (P .number)
+  legal-portion = portion-legal e i q (length portion) (length before) (state .place) (state .closed) (P .number)
 
   next-place : next .place ≡ state .place + length portion
   next-place = ap (λ (s : Progress). s .place) (P .accepted refl .0)
@@ -141,7 +141,7 @@ pub portion-within : (e i q : ℕ) (state : Progress) (portion before : List ℕ
     → PortionOutcome e i q state portion before answer next after → state .place ≤ frameLength e i q → next .place ≤ frameLength e i q
 portion-within e i q state portion before answer next after P h =
     elim (ℕ-discrete (verdictNumber answer) 0) [
-      | yes z ↦ omega (arith, ap (λ (r : Progress). r .place) (P .accepted z .0), portion-legal e i q (length portion) (length before) (state .place) (state .closed) answer (verdict-known answer Accepted z) (P .number) .within)
+      | yes z ↦ omega (arith, ap (λ (r : Progress). r .place) (P .accepted z .0), portion-legal e i q (length portion) (length before) (state .place) (state .closed) (subst (FirstOf (portionOrder e i q (length portion) (length before) (state .place) (state .closed))) z (P .number)) .within)
       | no n ↦ subst (λ (r : Progress). r .place ≤ frameLength e i q) (sym (P .refused n .0)) h
     ]
 
@@ -196,7 +196,7 @@ module _ (e i q : ℕ) (portions : List (List ℕ)) (written : List ℕ) (end : 
   end-is = given-taken e i q noneTaken end portions written G .0
 
   legal : CloseLegal e i q (length room) (end .place) (end .closed)
-  legal = close-legal e i q (length room) (end .place) (end .closed) Accepted refl (K .number)
+  legal = close-legal e i q (length room) (end .place) (end .closed) (K .number)
 
   whole : length frame ≡ frameLength e i q
   whole = omega (arith, ap (λ (s : Progress). s .place) end-is, legal .whole)
@@ -309,7 +309,7 @@ close-settled e i q state before v w s t a b A B =
     (λ accepts y z. (A .accepted y .0 ∙ sym (B .accepted z .0), checks-unique e i (octetRows (state .rows)) a b (some accepts) (A .accepted y .1) (B .accepted z .1)))
   where
     some : v ≡ Accepted → 0 < i
-    some accepts = omega (arith, close-legal e i q (length before) (state .place) (state .closed) v accepts (A .number) .words .some)
+    some accepts = omega (arith, close-legal e i q (length before) (state .place) (state .closed) (passed (closeOrder e i q (length before) (state .place) (state .closed)) v accepts (A .number)) .words .some)
 
 pub start-settled : (s t : Progress) → s ≡ noneTaken → t ≡ noneTaken → s ≡ t
 start-settled s t a b = a ∙ sym b

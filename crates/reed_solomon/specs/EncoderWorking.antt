@@ -37,10 +37,9 @@ unfoldable pub rowAfter : List ℕ → ℕ → List ℕ → ℕ → ℕ → List
 rowAfter generator i frame w zero = replicate 32 0
 rowAfter generator i frame w (suc k) = entered generator (rowAfter generator i frame w k) (getD frame (k * i + w) 0)
 
--- The rows when symbols have entered from a place of that word on, whichever generator the table is of.
-abbrev pub RowsOn : List ℕ → ℕ → ℕ → List (List ℕ) → List ℕ → List (List ℕ) → Type 0
-RowsOn table i word rows symbols after =
-    (generator : List ℕ) → length generator ≡ 32 → table ≡ tableOf generator → (place : ℕ) → place % i ≡ word → after ≡ rowsEntered generator i place rows symbols
+-- The rows when symbols have entered, the first of them at any place of that word.
+abbrev pub RowsOn : ℕ → ℕ → ℕ → List (List ℕ) → List ℕ → List (List ℕ) → Type 0
+RowsOn e i word rows symbols after = (place : ℕ) → place % i ≡ word → after ≡ rowsEntered (inRow e) i place rows symbols
 
 -- From octet `start` on the block holds the rows interleaved; what stands before is as it was.
 pub record ChecksPut (rows : List (List ℕ)) (i start : ℕ) (before after : List ℕ) : Type 0 where

@@ -1,6 +1,9 @@
 // Encoding of a whole frame: its words' checks, and the block with frame and checks.
+ghost use mathlib.Core.Path.{_≡_};
 ghost use Prim.Native.Nat.{_+_, _*_, _≤_, _<_};
 ghost use lib.ListN.{length};
+ghost use Rattle.refusals.specs.Order.{OneOf};
+ghost use Rattle.refusals.specs.Sizes.{strengths};
 ghost use Rattle.reed_solomon.specs.EncoderWorking.{RowsOn, ChecksPut};
 ghost use Rattle.reed_solomon.specs.Outcome.{EncodeOutcome};
 use crate::checks::stepped;
@@ -8,29 +11,29 @@ use crate::checks::table_of;
 use octets::copy_front;
 use refusals::Verdict;
 
-// The octets enter in turn from `word` on, whole frame or portion: a counter that starts anew spares a division for each octet.
-pub(crate) fn rows_on(
-    table: &[u8; 256],
-    before: [[u8; 32]; 8],
+// The symbols enter in turn from word `first` on, whole frame or portion: a counter that starts anew spares a division for each symbol.
+// The table is a local of the loop, which no lent row can be a part of: so it is kept in registers.
+pub(crate) fn enter(
+    e: u32,
+    rows: &mut [[u8; 32]; 8],
     first: usize,
     symbols: &[u8],
     depth: usize,
-) -> [[u8; 32]; 8]
-    requires { ⌜ (first < depth) × (depth ≤ 8) ⌝ }
-    ensures { λ r. ⌜ RowsOn (now (table .entry)) depth first before (now (symbols .entry)) r ⌝ }
+)
+    requires { ⌜ OneOf strengths e × (first < depth) × (depth ≤ 8) × (length (now rows) ≡ 8) ⌝ }
+    ensures { λ _. ⌜ RowsOn e depth first (now (rows .entry)) (now (symbols .entry)) (now (rows .exit)) ⌝ }
 {
-    let mut rows = before;
+    let table = table_of(e);
     let mut word = first;
     let n = symbols.len();
     for at in 0..n {
         let row = rows[word];
-        rows[word] = stepped(table, row, symbols[at]);
+        rows[word] = stepped(&table, row, symbols[at]);
         word += 1;
         if word == depth {
             word = 0;
         }
     }
-    rows
 }
 
 // The checks follow the frame, interleaved as it is.
@@ -61,8 +64,8 @@ pub fn encode(e: u32, depth: u32, fill: u32, frame: &[u8], block: &mut [u8]) -> 
         return Verdict::Refused(p);
     }
     let words = depth as usize;
-    let table = table_of(e);
-    let rows = rows_on(&table, [[0u8; 32]; 8], 0, frame, words);
+    let mut rows = [[0u8; 32]; 8];
+    enter(e, &mut rows, 0, frame, words);
     copy_front(frame, block);
     put_checks(rows, words, frame.len(), block);
     Verdict::Accepted

@@ -1,6 +1,5 @@
 // The Reed-Solomon coder with interleaving and virtual fill.
 mod checks;
-mod closing;
 mod decoder;
 mod encoder;
 mod piecewise;
@@ -8,9 +7,9 @@ mod symbols;
 mod table_16;
 mod table_8;
 
-pub use closing::close;
 pub use decoder::decode;
 pub use encoder::encode;
+pub use piecewise::close;
 pub use piecewise::portion;
 pub use piecewise::start;
 use refusals::Verdict;

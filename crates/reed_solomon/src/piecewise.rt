@@ -1,15 +1,14 @@
 // Encoding of a frame that comes in portions: the rows of checks go from call to call in a state.
 ghost use mathlib.Core.Path.{_≡_};
 ghost use Prim.Native.Nat.{_+_, _%_, _≤_, _<_};
-ghost use Rattle.reed_solomon.specs.Portions.{octetRows, heldRows, noneTaken, PortionOutcome};
+ghost use Rattle.reed_solomon.specs.Portions.{octetRows, heldRows, noneTaken, PortionOutcome, CloseOutcome};
 use crate::Portioned;
 use crate::Progress;
 use crate::Row;
-use crate::checks::table_of;
-use crate::encoder::rows_on;
+use crate::encoder::enter;
+use crate::encoder::put_checks;
 use octets::copy_front;
 use refusals::Verdict;
-use refusals::portion_parameters;
 
 pub fn start() -> Progress
     ensures { λ r. ⌜ r ≡ noneTaken ⌝ }
@@ -21,27 +20,51 @@ pub fn start() -> Progress
     }
 }
 
-pub(crate) fn unpacked(rows: [Row; 8]) -> [[u8; 32]; 8]
+// Written out, here and below, so that the compiler sees one copy of 256 octets.
+fn unpacked(rows: [Row; 8]) -> [[u8; 32]; 8]
     ensures { λ r. ⌜ r ≡ octetRows rows ⌝ }
 {
-    let mut lists = [[0u8; 32]; 8];
-    for w in 0..8 {
-        let row = rows[w];
-        let octets = row.octets;
-        lists[w] = octets;
-    }
-    lists
+    let row_0 = rows[0];
+    let octets_0 = row_0.octets;
+    let row_1 = rows[1];
+    let octets_1 = row_1.octets;
+    let row_2 = rows[2];
+    let octets_2 = row_2.octets;
+    let row_3 = rows[3];
+    let octets_3 = row_3.octets;
+    let row_4 = rows[4];
+    let octets_4 = row_4.octets;
+    let row_5 = rows[5];
+    let octets_5 = row_5.octets;
+    let row_6 = rows[6];
+    let octets_6 = row_6.octets;
+    let row_7 = rows[7];
+    let octets_7 = row_7.octets;
+    [
+        octets_0,
+        octets_1,
+        octets_2,
+        octets_3,
+        octets_4,
+        octets_5,
+        octets_6,
+        octets_7,
+    ]
 }
 
 fn packed(lists: [[u8; 32]; 8]) -> [Row; 8]
     ensures { λ r. ⌜ r ≡ heldRows lists ⌝ }
 {
-    let mut rows = [Row { octets: [0u8; 32] }; 8];
-    for w in 0..8 {
-        let octets = lists[w];
-        rows[w] = Row { octets: octets };
-    }
-    rows
+    [
+        Row { octets: lists[0] },
+        Row { octets: lists[1] },
+        Row { octets: lists[2] },
+        Row { octets: lists[3] },
+        Row { octets: lists[4] },
+        Row { octets: lists[5] },
+        Row { octets: lists[6] },
+        Row { octets: lists[7] },
+    ]
 }
 
 // The word of the next octet.
@@ -72,7 +95,7 @@ pub fn portion(
 {
     let n = symbols.len();
     let place = state.place;
-    let verdict = portion_parameters(e, depth, fill, n, written.len(), place, state.closed);
+    let verdict = refusals::portion_parameters(e, depth, fill, n, written.len(), place, state.closed);
     if let Verdict::Refused(p) = verdict {
         return Portioned {
             verdict: Verdict::Refused(p),
@@ -80,17 +103,40 @@ pub fn portion(
         };
     }
     let words = depth as usize;
-    let table = table_of(e);
-    let rows = state.rows;
-    let lists = unpacked(rows);
-    let after = rows_on(&table, lists, word_at(place, words), symbols, words);
+    let held = state.rows;
+    let mut rows = unpacked(held);
+    enter(e, &mut rows, word_at(place, words), symbols, words);
     copy_front(symbols, written);
     Portioned {
         verdict: Verdict::Accepted,
         state: Progress {
             place: moved_on(place, n),
             closed: state.closed,
-            rows: packed(after),
+            rows: packed(rows),
+        },
+    }
+}
+
+// Nothing is written before every check has passed: a refusal leaves state and output as they were.
+pub fn close(e: u32, depth: u32, fill: u32, state: Progress, checks: &mut [u8]) -> Portioned
+    ensures { λ r. ⌜ CloseOutcome e depth fill state (now (checks .entry)) (r .verdict) (r .state) (now (checks .exit)) ⌝ }
+{
+    let place = state.place;
+    let verdict = refusals::close_parameters(e, depth, fill, checks.len(), place, state.closed);
+    if let Verdict::Refused(p) = verdict {
+        return Portioned {
+            verdict: Verdict::Refused(p),
+            state: state,
+        };
+    }
+    let held = state.rows;
+    put_checks(unpacked(held), depth as usize, 0, checks);
+    Portioned {
+        verdict: Verdict::Accepted,
+        state: Progress {
+            place: place,
+            closed: true,
+            rows: held,
         },
     }
 }

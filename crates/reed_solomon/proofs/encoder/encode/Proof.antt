@@ -29,17 +29,14 @@ enum-told c = search needs
 legal : (c : tie.After-enum-told) → EncodeLegal (c .before .before .before .before .before .args .e) (c .before .before .before .before .before .args .depth) (c .before .before .before .before .before .args .fill) (length (c .before .before .before .before .before .args .frame .now)) (length (c .before .before .before .before .before .args .block .now))
 legal c = search (encode-legal, passed)
 
-table-of-requires : tie.Need-table-of-requires
-table-of-requires c κs = legal c .words .strength
-
-rows-on-requires : tie.Need-rows-on-requires
-rows-on-requires c κs = (omega (arith, legal (c .before .before) .words .some), legal (c .before .before) .words .deep)
+enter-requires : tie.Need-enter-requires
+enter-requires c κs = (legal (c .before) .words .strength, omega (arith, legal (c .before) .words .some), legal (c .before) .words .deep, refl)
 
 copy-front-requires : tie.Need-copy-front-requires
 copy-front-requires c κs = search needs
 
 put-checks-requires : tie.Need-put-checks-requires
-put-checks-requires c κs = checks-room _ _ _ (c .before .before .before .before .before .before .before .before .before .before .before .before .before .args .frame .now) (c .before .before .before .before .before .before .before .before .before .before .before .before .before .args .block .now) _ (legal (c .before .before .before .before .before .before .before .before)) (c .before .before .before .copy-front .ensures)
+put-checks-requires c κs = checks-room _ _ _ (c .before .before .before .before .before .before .before .before .before .before .before .before .args .frame .now) (c .before .before .before .before .before .before .before .before .before .before .before .before .args .block .now) _ (legal (c .before .before .before .before .before .before .before)) (c .before .before .before .copy-front .ensures)
 
 same-length : tie.Need-same-length
 same-length c = search needs
@@ -52,8 +49,7 @@ encode-spec =
     enum-known-verdict
     returns
     enum-told
-    table-of-requires
-    rows-on-requires
+    enter-requires
     copy-front-requires
     put-checks-requires
     same-length

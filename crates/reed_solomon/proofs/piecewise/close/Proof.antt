@@ -1,0 +1,50 @@
+-- `close` refuses as the shared checks do; else the checks of the rows are written, by what its parts ensure. The two answers come first,
+-- so that a promise that is not kept is what a check names first.
+use lib.ListN.{length}
+use Rattle.refusals.proofs.Verdicts.{passed}
+use Rattle.reed_solomon.proofs.PortionSteps.{CloseLegal, close-legal, close-room, close-refuses, close-accepts}
+use borrow.Author.Needs.{needs}
+use Rattle.reed_solomon.proofs.piecewise.close.Statement.{statement}
+use Rattle.reed_solomon.proofs.piecewise.close.Tie as tie
+
+-- refused for a parameter or for its place
+returns : tie.Need-returns
+returns c = close-refuses _ _ _ _ _ _ _ (c .before .verdict .given .1) (c .before .before .before .close-parameters .ensures)
+
+-- accepted
+returns-2 : tie.Need-returns-2
+returns-2 c = close-accepts _ _ _ _ _ _ _ (search passed) (c .before .before .before .before .unpacked .ensures) (c .before .before .put-checks .ensures)
+
+close-parameters-requires : tie.Need-close-parameters-requires
+close-parameters-requires c κs = search needs
+
+enum-known-verdict : tie.Need-enum-known-verdict
+enum-known-verdict c = search needs
+
+enum-told : tie.Need-enum-told
+enum-told c = search needs
+
+legal : (c : tie.After-enum-told) → CloseLegal (c .before .before .before .before .args .e) (c .before .before .before .before .args .depth) (c .before .before .before .before .args .fill) (length (c .before .before .before .before .args .checks .now)) (c .before .before .before .before .args .state .place) (c .before .before .before .before .args .state .closed)
+legal c = search (close-legal, passed)
+
+unpacked-requires : tie.Need-unpacked-requires
+unpacked-requires c κs = search needs
+
+put-checks-requires : tie.Need-put-checks-requires
+put-checks-requires c κs = close-room _ _ _ _ _ _ (legal (c .before .before .before))
+
+same-length : tie.Need-same-length
+same-length c = search needs
+
+pub close-spec : {M : Type 1} → statement M
+close-spec =
+    tie.close
+    (tie.spec
+    close-parameters-requires
+    enum-known-verdict
+    returns
+    enum-told
+    unpacked-requires
+    put-checks-requires
+    same-length
+    returns-2)
