@@ -1,13 +1,16 @@
--- What the exported calls answer and leave, by the outcomes of the calls beneath (document 01, "Refusal numbers and the order of checks").
+-- What the exported calls answer and leave, by the outcomes of the calls beneath (document 01, "Refusal numbers and the order of checks"; document 02, (ii)).
 use mathlib.Core.Path.{_≡_}
-use mathlib.Core.Bool.{Bool, not}
+use mathlib.Core.Bool.{Bool, true, false, not}
 use mathlib.Core.Logic.{_≢_}
 use mathlib.Core.List.{List, [], _∷_, _++_}
 use Prim.Native.Nat.{ℕ, _+_, _*_}
 use lib.Dec.{eqb}
+use lib.ListN.{getD}
 use Rattle.refusals.specs.Numbers.{verdictNumber}
 use Rattle.refusals.specs.declared.Verdict.{Verdict}
 use Rattle.reed_solomon.specs.Outcome.{EncodeOutcome, DecodeOutcome, decodedNumber, decodedValue}
+use Rattle.reed_solomon.specs.declared.Progress.{Progress}
+use Rattle.reed_solomon.specs.Portions.{octetRows, heldRows, PortionOutcome, CloseOutcome}
 use Rattle.randomiser.specs.Outcome.{RandomiseOutcome}
 use Rattle.marker.specs.declared.Tested.{Tested}
 use Rattle.marker.specs.declared.Searched.{Searched}
@@ -24,6 +27,10 @@ code number value = number + 256 * value
 -- A flag: 0 is no, any other number is yes.
 abbrev pub flag : ℕ → Bool
 flag n = not (eqb n 0)
+
+abbrev pub truth : Bool → ℕ
+truth true = 1
+truth false = 0
 
 -- What C lends for a report is as it was if the call was refused, by its number, and holds the report if it was accepted.
 pub record Lent {A : Type 0} (number : ℕ) (report before after : A) : Type 0 where
@@ -44,6 +51,35 @@ RandomiseCall before answer after = VerdictCall (RandomiseOutcome before) answer
 
 abbrev pub TransmitCall : ℕ → ℕ → ℕ → ℕ → List ℕ → List ℕ → ℕ → List ℕ → Type 0
 TransmitCall e i q randomised frame before answer after = VerdictCall (TransmitOutcome e i q (flag randomised) frame before) answer after
+
+-- The state of a frame in portions as C lends it: two numbers, its place and 0 while it is open, and the octets of its rows.
+abbrev pub stateOf : List ℕ → List (List ℕ) → Progress
+stateOf numbers rows = record { place = getD numbers 0 0; closed = flag (getD numbers 1 0); rows = heldRows rows }
+
+abbrev pub stateNumbers : Progress → List ℕ
+stateNumbers state = state .place ∷ truth (state .closed) ∷ []
+
+-- A state that is put in place of the one that was lent, by the number of the verdict that came with it.
+pub record StatePut (verdict : Verdict) (next : Progress) (numbers : List ℕ) (rows : List (List ℕ)) (answer : ℕ) (numbers′ : List ℕ) (rows′ : List (List ℕ)) : Type 0 where
+  pub coded : answer ≡ verdictNumber verdict
+  pub told : Lent (verdictNumber verdict) (stateNumbers next) numbers numbers′
+  pub held : Lent (verdictNumber verdict) (octetRows (next .rows)) rows rows′
+
+-- A call on a frame in portions: a verdict, a state and a buffer that the outcome permits, the state put in place.
+pub record PortioningCall (Permits : Verdict → Progress → List ℕ → Type 0) (numbers : List ℕ) (rows : List (List ℕ)) (answer : ℕ)
+    (numbers′ : List ℕ) (rows′ : List (List ℕ)) (after : List ℕ) : Type 0 where
+  pub verdict : Verdict
+  pub next : Progress
+  pub outcome : Permits verdict next after
+  pub put : StatePut verdict next numbers rows answer numbers′ rows′
+
+abbrev pub PortionCall : ℕ → ℕ → ℕ → List ℕ → List (List ℕ) → List ℕ → List ℕ → ℕ → List ℕ → List (List ℕ) → List ℕ → Type 0
+PortionCall e i q numbers rows portion before answer numbers′ rows′ after =
+    PortioningCall (PortionOutcome e i q (stateOf numbers rows) portion before) numbers rows answer numbers′ rows′ after
+
+abbrev pub CloseCall : ℕ → ℕ → ℕ → List ℕ → List (List ℕ) → List ℕ → ℕ → List ℕ → List (List ℕ) → List ℕ → Type 0
+CloseCall e i q numbers rows before answer numbers′ rows′ after =
+    PortioningCall (CloseOutcome e i q (stateOf numbers rows) before) numbers rows answer numbers′ rows′ after
 
 -- A call that decodes: number and value of an answer that the outcome permits; the report is the counts of eight words, then the total.
 pub record DecodingCall {Answer : Type 0} (numberOf valueOf : Answer → ℕ) (Permits : Answer → List ℕ → ℕ → List ℕ → Type 0) (before : List ℕ) (answer : ℕ)

@@ -1,10 +1,11 @@
 // The C interface: each call hands its arguments to the call beneath and gives that call's answer as one number, which has the refusal's
 // number in its lowest eight bits, 0 if accepted, and above them the refusal's value. include/ironsimmer.h says the same to C.
 mod codes;
+mod portions;
 mod reports;
 
 ghost use Rattle.randomiser.specs.Outcome.{NextOutcome};
-ghost use Rattle.ironsimmer.specs.Exported.{EncodeCall, DecodeCall, RandomiseCall, MarkerCall, SearchCall, ConvolveCall, TransmitCall, ReceiveCall};
+ghost use Rattle.ironsimmer.specs.Exported.{EncodeCall, PortionCall, CloseCall, DecodeCall, RandomiseCall, MarkerCall, SearchCall, ConvolveCall, TransmitCall, ReceiveCall};
 use chain::Received;
 use convolution::Convolved;
 use marker::Tested;
@@ -21,6 +22,45 @@ pub extern "C" fn ironsimmer_encode(
     ensures { λ r. ⌜ EncodeCall e depth fill (now (frame .entry)) (now (block .entry)) r (now (block .exit)) ⌝ }
 {
     refusals::verdict_number(reed_solomon::encode(e, depth, fill, frame, block))
+}
+
+#[no_mangle]
+pub extern "C" fn ironsimmer_encode_portion(
+    e: u32,
+    depth: u32,
+    fill: u32,
+    progress: &mut [u32; 2],
+    rows: &mut [[u8; 32]; 8],
+    portion: &[u8],
+    written: &mut [u8],
+) -> u64
+    ensures { λ r. ⌜ PortionCall e depth fill (now (progress .entry)) (now (rows .entry)) (now (portion .entry)) (now (written .entry)) r (now (progress .exit)) (now (rows .exit)) (now (written .exit)) ⌝ }
+{
+    let state = portions::state_of(progress, rows);
+    portions::put(
+        reed_solomon::portion(e, depth, fill, state, portion, written),
+        progress,
+        rows,
+    )
+}
+
+#[no_mangle]
+pub extern "C" fn ironsimmer_encode_close(
+    e: u32,
+    depth: u32,
+    fill: u32,
+    progress: &mut [u32; 2],
+    rows: &mut [[u8; 32]; 8],
+    checks: &mut [u8],
+) -> u64
+    ensures { λ r. ⌜ CloseCall e depth fill (now (progress .entry)) (now (rows .entry)) (now (checks .entry)) r (now (progress .exit)) (now (rows .exit)) (now (checks .exit)) ⌝ }
+{
+    let state = portions::state_of(progress, rows);
+    portions::put(
+        reed_solomon::close(e, depth, fill, state, checks),
+        progress,
+        rows,
+    )
 }
 
 #[no_mangle]

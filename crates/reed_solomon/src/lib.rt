@@ -10,6 +10,8 @@ mod table_8;
 pub use decoder::decode;
 pub use encoder::encode;
 pub use piecewise::close;
+pub use piecewise::held_rows;
+pub use piecewise::octet_rows;
 pub use piecewise::portion;
 pub use piecewise::start;
 use refusals::Verdict;

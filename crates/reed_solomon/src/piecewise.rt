@@ -20,8 +20,9 @@ pub fn start() -> Progress
     }
 }
 
-// Written out, here and below, so that the compiler sees one copy of 256 octets.
-fn unpacked(rows: [Row; 8]) -> [[u8; 32]; 8]
+// A struct cannot hold an array of arrays, nor can an array of structs be lent: so a state has rows, and what is lent has their octets.
+// Written out, both ways, so that the compiler sees one copy of 256 octets.
+pub fn octet_rows(rows: [Row; 8]) -> [[u8; 32]; 8]
     ensures { λ r. ⌜ r ≡ octetRows rows ⌝ }
 {
     let row_0 = rows[0];
@@ -52,7 +53,7 @@ fn unpacked(rows: [Row; 8]) -> [[u8; 32]; 8]
     ]
 }
 
-fn packed(lists: [[u8; 32]; 8]) -> [Row; 8]
+pub fn held_rows(lists: [[u8; 32]; 8]) -> [Row; 8]
     ensures { λ r. ⌜ r ≡ heldRows lists ⌝ }
 {
     [
@@ -104,7 +105,7 @@ pub fn portion(
     }
     let words = depth as usize;
     let held = state.rows;
-    let mut rows = unpacked(held);
+    let mut rows = octet_rows(held);
     enter(e, &mut rows, word_at(place, words), symbols, words);
     copy_front(symbols, written);
     Portioned {
@@ -112,7 +113,7 @@ pub fn portion(
         state: Progress {
             place: moved_on(place, n),
             closed: state.closed,
-            rows: packed(rows),
+            rows: held_rows(rows),
         },
     }
 }
@@ -130,7 +131,7 @@ pub fn close(e: u32, depth: u32, fill: u32, state: Progress, checks: &mut [u8]) 
         };
     }
     let held = state.rows;
-    put_checks(unpacked(held), depth as usize, 0, checks);
+    put_checks(octet_rows(held), depth as usize, 0, checks);
     Portioned {
         verdict: Verdict::Accepted,
         state: Progress {

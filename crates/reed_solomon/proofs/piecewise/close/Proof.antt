@@ -13,7 +13,7 @@ returns c = close-refuses _ _ _ _ _ _ _ (c .before .verdict .given .1) (c .befor
 
 -- accepted
 returns-2 : tie.Need-returns-2
-returns-2 c = close-accepts _ _ _ _ _ _ _ (search passed) (c .before .before .before .before .unpacked .ensures) (c .before .before .put-checks .ensures)
+returns-2 c = close-accepts _ _ _ _ _ _ _ (search passed) (c .before .before .before .before .octet-rows .ensures) (c .before .before .put-checks .ensures)
 
 close-parameters-requires : tie.Need-close-parameters-requires
 close-parameters-requires c κs = search needs
@@ -27,8 +27,8 @@ enum-told c = search needs
 legal : (c : tie.After-enum-told) → CloseLegal (c .before .before .before .before .args .e) (c .before .before .before .before .args .depth) (c .before .before .before .before .args .fill) (length (c .before .before .before .before .args .checks .now)) (c .before .before .before .before .args .state .place) (c .before .before .before .before .args .state .closed)
 legal c = search (close-legal, passed)
 
-unpacked-requires : tie.Need-unpacked-requires
-unpacked-requires c κs = search needs
+octet-rows-requires : tie.Need-octet-rows-requires
+octet-rows-requires c κs = search needs
 
 put-checks-requires : tie.Need-put-checks-requires
 put-checks-requires c κs = close-room _ _ _ _ _ _ (legal (c .before .before .before))
@@ -44,7 +44,7 @@ close-spec =
     enum-known-verdict
     returns
     enum-told
-    unpacked-requires
+    octet-rows-requires
     put-checks-requires
     same-length
     returns-2)

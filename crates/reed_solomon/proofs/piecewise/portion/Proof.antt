@@ -14,7 +14,7 @@ returns c = portion-refuses _ _ _ _ _ _ _ _ (c .before .verdict .given .1) (c .b
 
 -- accepted
 returns-2 : tie.Need-returns-2
-returns-2 c = portion-accepts _ _ _ _ _ _ _ _ (search passed) (taken-is _ _ (c .before .before .before .before .before .before .before .before .before .before .before .before .before .before .before .before .args .state) _ _ _ _ _ _ (c .before .moved-on .ensures) (c .before .before .before .before .before .before .before .word-at .ensures .0) (c .before .before .before .before .before .before .before .before .before .unpacked .ensures) (c .before .before .before .before .before .before .enter .ensures) (c .packed .ensures)) (c .before .before .before .before .copy-front .ensures)
+returns-2 c = portion-accepts _ _ _ _ _ _ _ _ (search passed) (taken-is _ _ (c .before .before .before .before .before .before .before .before .before .before .before .before .before .before .before .before .args .state) _ _ _ _ _ _ (c .before .moved-on .ensures) (c .before .before .before .before .before .before .before .word-at .ensures .0) (c .before .before .before .before .before .before .before .before .before .octet-rows .ensures) (c .before .before .before .before .before .before .enter .ensures) (c .held-rows .ensures)) (c .before .before .before .before .copy-front .ensures)
 
 portion-parameters-requires : tie.Need-portion-parameters-requires
 portion-parameters-requires c κs = search needs
@@ -28,8 +28,8 @@ enum-told c = search needs
 legal : (c : tie.After-enum-told) → PortionLegal (c .before .before .before .before .before .args .e) (c .before .before .before .before .before .args .depth) (c .before .before .before .before .before .args .fill) (length (c .before .before .before .before .before .args .symbols .now)) (length (c .before .before .before .before .before .args .written .now)) (c .before .before .before .before .before .args .state .place) (c .before .before .before .before .before .args .state .closed)
 legal c = search (portion-legal, passed)
 
-unpacked-requires : tie.Need-unpacked-requires
-unpacked-requires c κs = search needs
+octet-rows-requires : tie.Need-octet-rows-requires
+octet-rows-requires c κs = search needs
 
 word-at-requires : tie.Need-word-at-requires
 word-at-requires c κs = omega (arith, legal (c .before .before .before) .words .some)
@@ -43,8 +43,8 @@ copy-front-requires c κs = search needs
 moved-on-requires : tie.Need-moved-on-requires
 moved-on-requires c κs = place-small _ _ _ _ _ _ _ (legal (c .before .before .before .before .before .before .before .before .before))
 
-packed-requires : tie.Need-packed-requires
-packed-requires c κs = search needs
+held-rows-requires : tie.Need-held-rows-requires
+held-rows-requires c κs = search needs
 
 same-length : tie.Need-same-length
 same-length c = search needs
@@ -57,11 +57,11 @@ portion-spec =
     enum-known-verdict
     returns
     enum-told
-    unpacked-requires
+    octet-rows-requires
     word-at-requires
     enter-requires
     copy-front-requires
     moved-on-requires
-    packed-requires
+    held-rows-requires
     same-length
     returns-2)

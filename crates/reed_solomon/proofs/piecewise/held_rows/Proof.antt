@@ -1,11 +1,11 @@
--- `packed` puts each list of octets into a row.
+-- `held_rows` puts each list of octets into a row.
 use mathlib.Core.Path.{ap}
 use mathlib.Core.List.{[], map}
 use Rattle.reed_solomon.specs.Portions.{rowOf}
 use Rattle.reed_solomon.proofs.Eight.{eight}
 use borrow.Author.Needs.{needs}
-use Rattle.reed_solomon.proofs.piecewise.packed.Statement.{statement}
-use Rattle.reed_solomon.proofs.piecewise.packed.Tie as tie
+use Rattle.reed_solomon.proofs.piecewise.held_rows.Statement.{statement}
+use Rattle.reed_solomon.proofs.piecewise.held_rows.Tie as tie
 
 array-copy-out-t5 : tie.Need-array-copy-out-t5
 array-copy-out-t5 c = search needs
@@ -34,8 +34,8 @@ array-copy-out-t33 c = search needs
 returns : tie.Need-returns
 returns c = ap (map rowOf) (eight [] (c .before .before .before .before .before .before .before .before .args .t1) (search needs))
 
-pub packed-spec : {M : Type 1} → statement M
-packed-spec =
+pub held-rows-spec : {M : Type 1} → statement M
+held-rows-spec =
     tie.close
     (tie.spec
     array-copy-out-t5

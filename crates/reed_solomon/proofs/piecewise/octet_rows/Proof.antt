@@ -1,11 +1,11 @@
--- `unpacked` takes each row's octets.
+-- `octet_rows` takes each row's octets.
 use mathlib.Core.Path.{ap}
 use mathlib.Core.List.{[], map}
 use Rattle.reed_solomon.specs.Portions.{octetsOf, rowOf}
 use Rattle.reed_solomon.proofs.Eight.{eight}
 use borrow.Author.Needs.{needs}
-use Rattle.reed_solomon.proofs.piecewise.unpacked.Statement.{statement}
-use Rattle.reed_solomon.proofs.piecewise.unpacked.Tie as tie
+use Rattle.reed_solomon.proofs.piecewise.octet_rows.Statement.{statement}
+use Rattle.reed_solomon.proofs.piecewise.octet_rows.Tie as tie
 
 array-copy-out-row-0 : tie.Need-array-copy-out-row-0
 array-copy-out-row-0 c = search needs
@@ -34,8 +34,8 @@ array-copy-out-row-7 c = search needs
 returns : tie.Need-returns
 returns c = ap (map octetsOf) (eight (rowOf []) (c .before .before .before .before .before .before .before .before .before .before .before .before .before .before .before .before .args .t1) (search needs))
 
-pub unpacked-spec : {M : Type 1} → statement M
-unpacked-spec =
+pub octet-rows-spec : {M : Type 1} → statement M
+octet-rows-spec =
     tie.close
     (tie.spec
     array-copy-out-row-0
