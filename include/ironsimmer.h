@@ -35,7 +35,8 @@ enum ironsimmer_refusal {
     IRONSIMMER_TOLERANCE = 8,     /* the tolerance is over 3 */
     IRONSIMMER_MARKER = 9,        /* more wrong bits in the marker than the tolerance; the value is their number */
     IRONSIMMER_WORD = 10,         /* a word has no codeword with zero fill within the allowance; the value is the lowest such word */
-    IRONSIMMER_START = 11         /* the search starts past the stream's end */
+    IRONSIMMER_START = 11,        /* the search starts past the stream's end */
+    IRONSIMMER_PROGRESS = 14      /* the frame is closed, or the portion would pass its end, or the close is not at it */
 };
 
 enum ironsimmer_search_kind {
@@ -54,6 +55,36 @@ enum ironsimmer_search_kind {
  */
 uint64_t ironsimmer_encode(uint32_t e, uint32_t depth, uint32_t fill,
                            const uint8_t *frame, size_t frame_len, uint8_t *block, size_t block_len);
+
+/*
+ * Takes the next 0 to 300 octets of a frame that comes in portions, and writes them through: written, as long as the portion, gets its
+ * octets. However a frame of (255 - 2E - Q) I octets is cut, all that is written, joined, and then the checks that
+ * ironsimmer_encode_close gives are the block of ironsimmer_encode.
+ *
+ * The state between the calls is the caller's. progress holds the place, which is the number of octets taken so far, then whether the
+ * frame is closed (0 is open, any other number closed). rows holds 32 check octets for each of eight words, those of word w at octets
+ * 32 w to 32 w + 31. All zero is the start of a frame. An accepted portion adds its length to the place and leaves the frame open.
+ *
+ * One state belongs to one frame, and E, I and Q must be the same at each call of it. A call judges only the numbers that it is given:
+ * with other numbers the checks are those of another code. Any state is judged, also one that no call has left.
+ *
+ * 14 is due if the frame is closed, or if place and portion together pass its length; an empty portion is accepted up to its end and
+ * at it.
+ * Refuses by 1, 2, 3, 5, 6, 14, and then leaves progress, rows and written as they were.
+ */
+uint64_t ironsimmer_encode_portion(uint32_t e, uint32_t depth, uint32_t fill, uint32_t progress[2], uint8_t rows[256],
+                                   const uint8_t *portion, size_t portion_len, uint8_t *written, size_t written_len);
+
+/*
+ * Closes a frame that came in portions: checks, 2E x I octets, gets the check octets that follow the frame in its block, check j of
+ * word w at octet j I + w. progress and rows are as the last portion left them, and E, I and Q are those of the portions. The frame is
+ * closed afterwards (1), so that its state takes nothing more; place and rows stay. The next frame starts from zeros again.
+ *
+ * 14 is due if the frame is closed, or if the place is not its length.
+ * Refuses by 1, 2, 3, 6, 14, and then leaves progress, rows and checks as they were.
+ */
+uint64_t ironsimmer_encode_close(uint32_t e, uint32_t depth, uint32_t fill, uint32_t progress[2], uint8_t rows[256],
+                                 uint8_t *checks, size_t checks_len);
 
 /*
  * Decodes a block: delivered exactly if every word lies within s symbols of a codeword whose fill is all zero. The frame is that of

@@ -5,6 +5,7 @@
 mod chain;
 mod convolution;
 mod marker;
+mod portions;
 mod randomiser;
 #[allow(unsafe_code)]
 mod raw;
@@ -14,6 +15,7 @@ mod words;
 pub use chain::Chain;
 pub use convolution::{convolve, symbols_len};
 pub use marker::{search, test_marker, Search, MARKER};
+pub use portions::PortionEncoder;
 pub use randomiser::{randomise, Sequence};
 pub use refusal::Refusal;
 pub use words::{Report, Words};

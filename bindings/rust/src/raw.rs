@@ -1,4 +1,4 @@
-//! The nine calls of `include/ironsimmer.h`, each behind a function that anyone may call. No other module has `unsafe` in it.
+//! The eleven calls of `include/ironsimmer.h`, each behind a function that anyone may call. No other module has `unsafe` in it.
 //!
 //! The header asks two things of its caller. Each pointer is not null and points to as many octets or numbers as are said to be
 //! there: a reference is never null, not even an empty slice's, and a slice's own length goes with it. And what is lent to be
@@ -15,6 +15,28 @@ extern "C" {
         frame_len: usize,
         block: *mut u8,
         block_len: usize,
+    ) -> u64;
+
+    fn ironsimmer_encode_portion(
+        e: u32,
+        depth: u32,
+        fill: u32,
+        progress: *mut u32,
+        rows: *mut u8,
+        portion: *const u8,
+        portion_len: usize,
+        written: *mut u8,
+        written_len: usize,
+    ) -> u64;
+
+    fn ironsimmer_encode_close(
+        e: u32,
+        depth: u32,
+        fill: u32,
+        progress: *mut u32,
+        rows: *mut u8,
+        checks: *mut u8,
+        checks_len: usize,
     ) -> u64;
 
     fn ironsimmer_decode(
@@ -83,6 +105,48 @@ pub fn encode(words: Words, frame: &[u8], block: &mut [u8]) -> u64 {
     let Words { strength, depth, fill } = words;
     // SAFETY: both slices go with their own lengths, and the block, lent by `&mut`, overlaps no frame.
     unsafe { ironsimmer_encode(strength, depth, fill, frame.as_ptr(), frame.len(), block.as_mut_ptr(), block.len()) }
+}
+
+pub fn encode_portion(
+    words: Words,
+    progress: &mut [u32; 2],
+    rows: &mut [[u8; 32]; 8],
+    portion: &[u8],
+    written: &mut [u8],
+) -> u64 {
+    let Words { strength, depth, fill } = words;
+    // SAFETY: both slices go with their own lengths, progress has the two numbers that are written and rows, flattened, the 256 octets,
+    // and progress, rows and the output, each lent by `&mut`, overlap neither the portion nor each other.
+    unsafe {
+        ironsimmer_encode_portion(
+            strength,
+            depth,
+            fill,
+            progress.as_mut_ptr(),
+            rows.as_flattened_mut().as_mut_ptr(),
+            portion.as_ptr(),
+            portion.len(),
+            written.as_mut_ptr(),
+            written.len(),
+        )
+    }
+}
+
+pub fn encode_close(words: Words, progress: &mut [u32; 2], rows: &mut [[u8; 32]; 8], checks: &mut [u8]) -> u64 {
+    let Words { strength, depth, fill } = words;
+    // SAFETY: the checks go with their own length, progress has the two numbers that are written and rows, flattened, the 256 octets,
+    // and the three, each lent by `&mut`, do not overlap each other.
+    unsafe {
+        ironsimmer_encode_close(
+            strength,
+            depth,
+            fill,
+            progress.as_mut_ptr(),
+            rows.as_flattened_mut().as_mut_ptr(),
+            checks.as_mut_ptr(),
+            checks.len(),
+        )
+    }
 }
 
 pub fn decode(words: Words, allowance: u32, block: &[u8], frame: &mut [u8], counts: &mut [u32; 9]) -> u64 {

@@ -35,10 +35,12 @@ pub enum Refusal {
     },
     /// 11: the search starts past the stream's end.
     Start,
+    /// 14: the frame that comes in portions is closed, or the portion would pass its end, or the close is not at it.
+    Progress,
 }
 
 impl Refusal {
-    /// The refusal's number, 1 to 11.
+    /// The refusal's number, 1 to 11 or 14.
     pub const fn number(self) -> u32 {
         match self {
             Refusal::Strength => 1,
@@ -52,6 +54,7 @@ impl Refusal {
             Refusal::Marker { .. } => 9,
             Refusal::Word { .. } => 10,
             Refusal::Start => 11,
+            Refusal::Progress => 14,
         }
     }
 }
@@ -71,6 +74,9 @@ impl fmt::Display for Refusal {
             Refusal::Marker { wrong_bits } => write!(f, "the marker has {wrong_bits} wrong bits"),
             Refusal::Word { word } => write!(f, "word {word} has no codeword within the allowance"),
             Refusal::Start => write!(f, "the search starts past the stream's end"),
+            Refusal::Progress => {
+                write!(f, "the frame is closed, or the portion would pass its end, or the close is not at it")
+            }
         }
     }
 }
@@ -94,6 +100,7 @@ pub(crate) fn accepted(answer: u64) -> Result<(), Refusal> {
         9 => Refusal::Marker { wrong_bits: value },
         10 => Refusal::Word { word: value },
         11 => Refusal::Start,
-        number => unreachable!("the calls are proved to answer 0 to 11, and not {number}"),
+        14 => Refusal::Progress,
+        number => unreachable!("the calls are proved to answer 0 to 11 or 14, and not {number}"),
     })
 }

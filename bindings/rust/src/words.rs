@@ -42,6 +42,12 @@ impl Words {
         Ok(((255 - self.fill) * self.depth) as usize)
     }
 
+    /// The octets of a block's checks, 2E I. Refuses by 1, 2, 3.
+    pub fn checks_len(self) -> Result<usize, Refusal> {
+        self.judge()?;
+        Ok((2 * self.strength * self.depth) as usize)
+    }
+
     /// Codes a frame as a block: the frame, then the checks of its words. Refuses by 1, 2, 3, 5, 6.
     pub fn encode(self, frame: &[u8], block: &mut [u8]) -> Result<(), Refusal> {
         accepted(raw::encode(self, frame, block))

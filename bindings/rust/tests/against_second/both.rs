@@ -1,9 +1,10 @@
-//! The nine calls, each made in both programs on the same input. All that they answer and leave behind is compared.
+//! The eleven calls, each made in both programs on the same input. All that they answer and leave behind is compared.
 
-use ironsimmer::{Chain, Refusal, Report, Search, Sequence, Words};
+use ironsimmer::{Chain, PortionEncoder, Refusal, Report, Search, Sequence, Words};
 use second::blocks::{Code, Decoding};
 use second::data::{bits, packed};
 use second::marker::Searched;
+use second::portions::Progress;
 
 const GUARD: [u8; 8] = [0xC5; 8];
 
@@ -49,6 +50,47 @@ pub fn encode(words: Words, frame: &[u8], before: &[u8]) -> (Result<(), Refusal>
     assert_eq!(numbers(&answer), (number, 0), "{words:?}");
     assert_eq!(block, expected, "{words:?}");
     (answer, block)
+}
+
+/// An encoder's state, as the second program has it.
+fn state(encoder: &PortionEncoder) -> Progress {
+    Progress { place: encoder.place().into(), closed: encoder.is_closed(), rows: *encoder.rows() }
+}
+
+/// Lends an encoder, between two others, and a buffer to a call. Demands that number, state and buffer are then those expected, that the
+/// encoders beside it stay as they are, and that it does too if it refuses.
+fn stepped(
+    encoder: &mut PortionEncoder,
+    before: &[u8],
+    expected: (u64, Progress, Vec<u8>),
+    call: impl FnOnce(&mut PortionEncoder, &mut [u8]) -> Result<(), Refusal>,
+) -> (Result<(), Refusal>, Vec<u8>) {
+    let held = encoder.clone();
+    let beside = PortionEncoder::from_state(held.words(), u32::MAX, true, [[GUARD[0]; 32]; 8]);
+    let mut around = [beside.clone(), held.clone(), beside.clone()];
+    let (answer, after) = lent(before, |buffer| call(&mut around[1], buffer));
+    let [left, middle, right] = around;
+    *encoder = middle;
+
+    let (number, next, output) = expected;
+    assert_eq!(numbers(&answer), (number, 0), "{held:?}");
+    assert_eq!((encoder.words(), state(encoder)), (held.words(), next), "{held:?}");
+    assert_eq!(after, output, "{held:?}");
+    assert_eq!((&left, &right), (&beside, &beside), "octets beside the state");
+    assert!(answer.is_ok() || *encoder == held, "a refusal changed {held:?}");
+    (answer, after)
+}
+
+/// The answer, and the output as it is afterwards. The encoder is left as the call leaves it.
+pub fn portion(encoder: &mut PortionEncoder, portion: &[u8], before: &[u8]) -> (Result<(), Refusal>, Vec<u8>) {
+    let expected = code(encoder.words()).portion(&state(encoder), portion, before);
+    stepped(encoder, before, expected, |encoder, written| encoder.push(portion, written))
+}
+
+/// The answer, and the checks as they are afterwards. The encoder is left as the call leaves it.
+pub fn close(encoder: &mut PortionEncoder, before: &[u8]) -> (Result<(), Refusal>, Vec<u8>) {
+    let expected = code(encoder.words()).close(&state(encoder), before);
+    stepped(encoder, before, expected, |encoder, checks| encoder.close(checks))
 }
 
 /// The answer, and the frame as it is afterwards.

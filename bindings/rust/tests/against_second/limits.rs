@@ -8,7 +8,8 @@ use second::limits::encode_number;
 
 const MOST: u32 = u32::MAX;
 
-fn any_words(draw: &Draw) -> Words {
+/// Strength, depth and fill, each legal mostly.
+pub fn any_words(draw: &Draw) -> Words {
     let strength = draw.mostly(&STRENGTHS, &[0, 1, 7, 9, 15, 17, 24, 128, MOST]);
     let depth = draw.mostly(&DEPTHS, &[0, 6, 7, 9, 16, 255, MOST]);
     let last = 254_u32.saturating_sub(strength.saturating_mul(2));
@@ -89,12 +90,14 @@ fn lengths() {
                 match (words.frame_len(), words.block_len()) {
                     (Ok(frame), Ok(block)) => {
                         assert_eq!(encode_number(e, i, q, frame as u64, block as u64), 0, "{words:?}");
+                        assert_eq!(words.checks_len(), Ok(block - frame));
                         assert_eq!(Chain { words, randomised: true }.marked_len(), Ok(block + 4));
                     }
                     (frame, block) => {
                         assert_eq!(frame, block);
                         let refusal = frame.expect_err("no frame without a block");
                         assert_eq!(u64::from(refusal.number()), encode_number(e, i, q, 0, 0), "{words:?}");
+                        assert_eq!(words.checks_len(), Err(refusal));
                         assert_eq!(Chain { words, randomised: true }.marked_len(), Err(refusal));
                     }
                 }

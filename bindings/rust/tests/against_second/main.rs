@@ -11,5 +11,6 @@ mod convolution;
 mod draw;
 mod limits;
 mod marker;
+mod portions;
 mod randomiser;
 mod tally;

@@ -2,9 +2,9 @@
 
 use ironsimmer::Refusal;
 
-/// Of each number, how many answers had it.
+/// Of each number, how many answers had it. No refusal has the numbers 12 and 13.
 #[derive(Default)]
-pub struct Tally([usize; 12]);
+pub struct Tally([usize; 15]);
 
 impl Tally {
     /// Counts an answer by its number, 0 if accepted.
