@@ -62,8 +62,8 @@ uint64_t ironsimmer_encode(uint32_t e, uint32_t depth, uint32_t fill,
  * ironsimmer_encode_close gives are the block of ironsimmer_encode.
  *
  * The state between the calls is the caller's. progress holds the place, which is the number of octets taken so far, then whether the
- * frame is closed (0 is open, any other number closed). rows holds 32 check octets for each of eight words, those of word w at octets
- * 32 w to 32 w + 31. All zero is the start of a frame. An accepted portion adds its length to the place and leaves the frame open.
+ * frame is closed (0 is open, any other number closed). rows holds 32 check octets for each of eight words. All zero is the start of a
+ * frame. An accepted portion adds its length to the place and leaves the frame open.
  *
  * One state belongs to one frame, and E, I and Q must be the same at each call of it. A call judges only the numbers that it is given:
  * with other numbers the checks are those of another code. Any state is judged, also one that no call has left.
@@ -72,7 +72,7 @@ uint64_t ironsimmer_encode(uint32_t e, uint32_t depth, uint32_t fill,
  * at it.
  * Refuses by 1, 2, 3, 5, 6, 14, and then leaves progress, rows and written as they were.
  */
-uint64_t ironsimmer_encode_portion(uint32_t e, uint32_t depth, uint32_t fill, uint32_t progress[2], uint8_t rows[256],
+uint64_t ironsimmer_encode_portion(uint32_t e, uint32_t depth, uint32_t fill, uint32_t progress[2], uint8_t rows[8][32],
                                    const uint8_t *portion, size_t portion_len, uint8_t *written, size_t written_len);
 
 /*
@@ -83,7 +83,7 @@ uint64_t ironsimmer_encode_portion(uint32_t e, uint32_t depth, uint32_t fill, ui
  * 14 is due if the frame is closed, or if the place is not its length.
  * Refuses by 1, 2, 3, 6, 14, and then leaves progress, rows and checks as they were.
  */
-uint64_t ironsimmer_encode_close(uint32_t e, uint32_t depth, uint32_t fill, uint32_t progress[2], uint8_t rows[256],
+uint64_t ironsimmer_encode_close(uint32_t e, uint32_t depth, uint32_t fill, uint32_t progress[2], uint8_t rows[8][32],
                                  uint8_t *checks, size_t checks_len);
 
 /*
