@@ -1,4 +1,4 @@
--- The conditions of acceptance for the whole: what receive makes of a transmitted block, and condition 1 of all eight calls.
+-- The conditions of acceptance for the whole: what receive makes of a transmitted block, and condition 1 of all ten calls.
 use mathlib.Core.Path.{_≡_, refl, sym, ap, _∙_, subst}
 use mathlib.Core.Bool.{Bool}
 use mathlib.Core.Logic.{_≢_}
@@ -10,7 +10,7 @@ use lib.ListN.{length, drop, getD, replicate, length-drop, length-replicate, get
 use lib.Seq.{take-at, ext-getD}
 use Rattle.refusals.specs.Order.{Check, FirstOf}
 use Rattle.refusals.specs.Numbers.{verdictNumber}
-use Rattle.refusals.specs.Calls.{encodeOrder, decodeOrder, randomiseOrder, convolveOrder, markerOrder, searchOrder, transmitOrder, receiveParameters, receiveOrder}
+use Rattle.refusals.specs.Calls.{encodeOrder, portionOrder, closeOrder, decodeOrder, randomiseOrder, convolveOrder, markerOrder, searchOrder, transmitOrder, receiveParameters, receiveOrder}
 use Rattle.refusals.specs.declared.Verdict.{Verdict}
 use Rattle.refusals.specs.declared.Verdict.the-variants.{Accepted}
 use Rattle.refusals.proofs.Orders.{Clear, clear-accepted}
@@ -27,6 +27,8 @@ use Rattle.convolution.specs.declared.Convolved.{Convolved}
 use Rattle.reed_solomon.specs.declared.Decoded.{Decoded}
 use Rattle.reed_solomon.specs.declared.Decoded.the-variants as decoded
 use Rattle.reed_solomon.specs.Blocks.{wordOf, sentFrom, sum}
+use Rattle.reed_solomon.specs.declared.Progress.{Progress}
+use Rattle.reed_solomon.specs.Portions.{PortionOutcome, CloseOutcome}
 use Rattle.reed_solomon.specs.Outcome.{EncodeOutcome, Delivery, DecodeOutcome, decodedNumber}
 use Rattle.reed_solomon.proofs.Deliverable.{SomeLost, Passed, Order, all-found}
 use Rattle.reed_solomon.proofs.Conditions.{condition-two, condition-three-exactly-if}
@@ -191,6 +193,11 @@ FirstAndKept order number kept = FirstOf order number × (number ≢ 0 → kept)
 pub record ConditionOne : Type 0 where
   pub encode : (e i q : ℕ) (frame before : List ℕ) (answer : Verdict) (after : List ℕ) → EncodeOutcome e i q frame before answer after
       → FirstAndKept (encodeOrder e i q (length frame) (length before)) (verdictNumber answer) (after ≡ before)
+  pub portion : (e i q : ℕ) (state : Progress) (portion before : List ℕ) (answer : Verdict) (next : Progress) (after : List ℕ)
+      → PortionOutcome e i q state portion before answer next after
+      → FirstAndKept (portionOrder e i q (length portion) (length before) (state .place) (state .closed)) (verdictNumber answer) ((next ≡ state) × (after ≡ before))
+  pub close : (e i q : ℕ) (state : Progress) (before : List ℕ) (answer : Verdict) (next : Progress) (after : List ℕ) → CloseOutcome e i q state before answer next after
+      → FirstAndKept (closeOrder e i q (length before) (state .place) (state .closed)) (verdictNumber answer) ((next ≡ state) × (after ≡ before))
   pub decode : (e i q s : ℕ) (block before : List ℕ) (answer : Decoded) (counts : List ℕ) (total : ℕ) (after : List ℕ)
       → DecodeOutcome e i q s block before answer counts total after
       → FirstAndKept (decodeOrder e i q s (length block) (length before) (SomeLost e i q s block)) (decodedNumber answer) (after ≡ before)
@@ -212,6 +219,8 @@ pub condition-one : ConditionOne
 condition-one =
     record {
       encode = λ e i q frame before answer after O. (O .number, O .refused);
+      portion = λ e i q state portion before answer next after O. (O .number, O .refused);
+      close = λ e i q state before answer next after O. (O .number, O .refused);
       decode = λ e i q s block before answer counts total after O. (O .number, λ n. O .refused n .0);
       randomise = λ before answer after O. (O .number, O .refused);
       convolve = λ rate octets before answer after O. (O .number, O .refused);

@@ -16,6 +16,7 @@ use Rattle.refusals.proofs.Verdicts.{parameter-nonzero}
 use Rattle.reed_solomon.specs.declared.Decoded.{Decoded}
 use Rattle.reed_solomon.specs.declared.Decoded.the-variants as decoded
 use Rattle.reed_solomon.specs.Outcome.{DecodeOutcome, decodedNumber, decodedValue}
+use Rattle.reed_solomon.proofs.Eight.{eight}
 use Rattle.marker.specs.declared.Tested.{Tested}
 use Rattle.marker.specs.declared.Tested.the-variants as tested
 use Rattle.marker.specs.declared.Searched.{Searched}
@@ -187,13 +188,4 @@ module _ (before : List ℕ) {answer : Searched} where
 pub nine : (counts : List ℕ) (total : ℕ) → length counts ≡ 8
     → getD counts 0 0 ∷ getD counts 1 0 ∷ getD counts 2 0 ∷ getD counts 3 0 ∷ getD counts 4 0 ∷ getD counts 5 0 ∷ getD counts 6 0 ∷ getD counts 7 0 ∷ total ∷ []
     ≡ counts ++ (total ∷ [])
-nine [] total size = absurd (omega arith)
-nine (a ∷ []) total size = absurd (omega arith)
-nine (a ∷ b ∷ []) total size = absurd (omega arith)
-nine (a ∷ b ∷ c ∷ []) total size = absurd (omega arith)
-nine (a ∷ b ∷ c ∷ d ∷ []) total size = absurd (omega arith)
-nine (a ∷ b ∷ c ∷ d ∷ e ∷ []) total size = absurd (omega arith)
-nine (a ∷ b ∷ c ∷ d ∷ e ∷ f ∷ []) total size = absurd (omega arith)
-nine (a ∷ b ∷ c ∷ d ∷ e ∷ f ∷ g ∷ []) total size = absurd (omega arith)
-nine (a ∷ b ∷ c ∷ d ∷ e ∷ f ∷ g ∷ h ∷ []) total size = refl
-nine (a ∷ b ∷ c ∷ d ∷ e ∷ f ∷ g ∷ h ∷ x ∷ more) total size = absurd (omega arith)
+nine counts total size = ap {B = List ℕ} (λ (list : List ℕ). list ++ (total ∷ [])) (eight 0 counts size)

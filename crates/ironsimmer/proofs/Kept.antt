@@ -3,13 +3,14 @@ use mathlib.Core.Path.{_≡_, _∙_}
 use mathlib.Core.Logic.{_≢_}
 use mathlib.Core.List.{List}
 use Prim.Native.Nat.{ℕ}
+use Rattle.refusals.specs.Numbers.{verdictNumber}
 use Rattle.reed_solomon.specs.declared.Decoded.{Decoded}
 use Rattle.reed_solomon.specs.declared.Decoded.the-variants as decoded
 use Rattle.reed_solomon.specs.Outcome.{decodedNumber, decodedValue}
 use Rattle.chain.specs.declared.Received.{Received}
 use Rattle.chain.specs.declared.Received.the-variants as received
 use Rattle.chain.specs.Outcome.{receivedNumber, receivedValue}
-use Rattle.ironsimmer.specs.Exported.{code, EncodeCall, RandomiseCall, TransmitCall, DecodeCall, ReceiveCall, MarkerCall, SearchCall, ConvolveCall}
+use Rattle.ironsimmer.specs.Exported.{code, EncodeCall, PortionCall, CloseCall, RandomiseCall, TransmitCall, DecodeCall, ReceiveCall, MarkerCall, SearchCall, ConvolveCall}
 use Rattle.ironsimmer.proofs.Answers.{word-nonzero, stage-nonzero}
 
 -- An answer other than 0 is one of a refusal.
@@ -21,9 +22,13 @@ received-refused : (a : Received) → code (receivedNumber a) (receivedValue a) 
 received-refused received.Delivered n = n
 received-refused (received.Refused s) n = stage-nonzero s
 
--- The eight calls that can refuse: an answer other than 0 leaves every buffer, count and report as it was.
+-- The ten calls that can refuse: an answer other than 0 leaves every buffer, count, report and state as it was.
 pub record KeptOnARefusal : Type 0 where
   pub encode : (e i q : ℕ) (frame before : List ℕ) (answer : ℕ) (after : List ℕ) → EncodeCall e i q frame before answer after → answer ≢ 0 → after ≡ before
+  pub portion : (e i q : ℕ) (numbers : List ℕ) (rows : List (List ℕ)) (portion before : List ℕ) (answer : ℕ) (numbers′ : List ℕ) (rows′ : List (List ℕ)) (after : List ℕ)
+      → PortionCall e i q numbers rows portion before answer numbers′ rows′ after → answer ≢ 0 → (numbers′ ≡ numbers) × (rows′ ≡ rows) × (after ≡ before)
+  pub close : (e i q : ℕ) (numbers : List ℕ) (rows : List (List ℕ)) (before : List ℕ) (answer : ℕ) (numbers′ : List ℕ) (rows′ : List (List ℕ)) (after : List ℕ)
+      → CloseCall e i q numbers rows before answer numbers′ rows′ after → answer ≢ 0 → (numbers′ ≡ numbers) × (rows′ ≡ rows) × (after ≡ before)
   pub decode : (e i q s : ℕ) (block before reported : List ℕ) (answer : ℕ) (after report : List ℕ) → DecodeCall e i q s block before reported answer after report
       → answer ≢ 0 → (after ≡ before) × (report ≡ reported)
   pub randomise : (before : List ℕ) (answer : ℕ) (after : List ℕ) → RandomiseCall before answer after → answer ≢ 0 → after ≡ before
@@ -41,6 +46,10 @@ pub kept-on-a-refusal : KeptOnARefusal
 kept-on-a-refusal =
     record {
       encode = λ e i q frame before answer after C n. C .outcome .refused (λ z. n (C .coded ∙ z));
+      portion = λ e i q numbers rows portion before answer numbers′ rows′ after C n.
+          let refuses : verdictNumber (C .verdict) ≢ 0 = λ z. n (C .put .coded ∙ z) in (C .put .told .refused refuses, C .put .held .refused refuses, C .outcome .refused refuses .1);
+      close = λ e i q numbers rows before answer numbers′ rows′ after C n.
+          let refuses : verdictNumber (C .verdict) ≢ 0 = λ z. n (C .put .coded ∙ z) in (C .put .told .refused refuses, C .put .held .refused refuses, C .outcome .refused refuses .1);
       decode = λ e i q s block before reported answer after report C n.
           let refuses : decodedNumber (C .answered) ≢ 0 = decoded-refused (C .answered) (λ z. n (C .coded ∙ z)) in (C .outcome .refused refuses .0, C .lent .refused refuses);
       randomise = λ before answer after C n. C .outcome .refused (λ z. n (C .coded ∙ z));

@@ -6,7 +6,10 @@ use native.Mathlib.Decide.{ℕ-discrete}
 use Rattle.refusals.specs.Numbers.{verdictNumber}
 use Rattle.refusals.specs.declared.Verdict.{Verdict}
 use Rattle.reed_solomon.specs.Outcome.{EncodeOutcome, DecodeOutcome, decodedNumber, decodedValue}
+use Rattle.reed_solomon.specs.declared.Progress.{Progress}
+use Rattle.reed_solomon.specs.Portions.{octetRows, PortionOutcome, CloseOutcome}
 use Rattle.reed_solomon.proofs.Settled.{encode-settled}
+use Rattle.reed_solomon.proofs.Portions.{portion-settled, close-settled}
 use Rattle.reed_solomon.proofs.DecodeSettled.{decode-settled}
 use Rattle.randomiser.specs.Outcome.{NextOutcome, RandomiseOutcome}
 use Rattle.randomiser.proofs.Settled.{next-bits-settled, randomise-settled}
@@ -16,7 +19,7 @@ use Rattle.convolution.specs.Outcome.{convolvedNumber, convolvedCount}
 use Rattle.convolution.proofs.Settled.{convolve-settled}
 use Rattle.chain.specs.Outcome.{TransmitOutcome, ReceiveOutcome, receivedNumber, receivedValue}
 use Rattle.chain.proofs.Settled.{transmit-settled, receive-settled}
-use Rattle.ironsimmer.specs.Exported.{code, flag, Lent, searchReport, VerdictCall, EncodeCall, RandomiseCall, TransmitCall, DecodingCall, DecodeCall, ReceiveCall, MarkerCall, SearchCall, ConvolveCall}
+use Rattle.ironsimmer.specs.Exported.{code, flag, Lent, searchReport, stateOf, stateNumbers, VerdictCall, EncodeCall, PortioningCall, PortionCall, CloseCall, RandomiseCall, TransmitCall, DecodingCall, DecodeCall, ReceiveCall, MarkerCall, SearchCall, ConvolveCall}
 
 -- ---- one law for each kind of call
 
@@ -36,6 +39,18 @@ verdict-call-settled : (Permits : Verdict → List ℕ → Type 0) → ((v w : V
 verdict-call-settled Permits settled m n a b x y =
     let same = settled (x .verdict) (y .verdict) a b (x .outcome) (y .outcome) in (x .coded ∙ ap verdictNumber (same .0) ∙ sym (y .coded), same .1)
 
+portioning-call-settled : (Permits : Verdict → Progress → List ℕ → Type 0)
+    → ((v w : Verdict) (s t : Progress) (a b : List ℕ) → Permits v s a → Permits w t b → (v ≡ w) × (s ≡ t) × (a ≡ b))
+    → (numbers : List ℕ) (rows : List (List ℕ)) (m n : ℕ) (j k : List ℕ) (r t : List (List ℕ)) (a b : List ℕ)
+    → PortioningCall Permits numbers rows m j r a → PortioningCall Permits numbers rows n k t b → (m ≡ n) × (j ≡ k) × (r ≡ t) × (a ≡ b)
+portioning-call-settled Permits settled numbers rows m n j k r t a b x y =
+    let same = settled (x .verdict) (y .verdict) (x .next) (y .next) a b (x .outcome) (y .outcome) in (
+      x .put .coded ∙ ap verdictNumber (same .0) ∙ sym (y .put .coded),
+      lent-settled _ _ _ _ numbers j k (ap verdictNumber (same .0)) (ap stateNumbers (same .1)) (x .put .told) (y .put .told),
+      lent-settled _ _ _ _ rows r t (ap verdictNumber (same .0)) (ap (λ (s : Progress). octetRows (s .rows)) (same .1)) (x .put .held) (y .put .held),
+      same .2,
+    )
+
 decoding-call-settled : {Answer : Type 0} (numberOf valueOf : Answer → ℕ) (Permits : Answer → List ℕ → ℕ → List ℕ → Type 0)
     → ((v w : Answer) (c d : List ℕ) (j k : ℕ) (a b : List ℕ) → Permits v c j a → Permits w d k b → (v ≡ w) × (c ≡ d) × (j ≡ k) × (a ≡ b))
     → (before : List ℕ) (m n : ℕ) (a b r t : List ℕ) → DecodingCall numberOf valueOf Permits before m a r → DecodingCall numberOf valueOf Permits before n b t
@@ -52,6 +67,16 @@ decoding-call-settled numberOf valueOf Permits settled before m n a b r t x y =
 module _ (m n : ℕ) (a b : List ℕ) where
   pub ironsimmer-encode-settled : (e i q : ℕ) (frame before : List ℕ) → EncodeCall e i q frame before m a → EncodeCall e i q frame before n b → (m ≡ n) × (a ≡ b)
   ironsimmer-encode-settled e i q frame before = verdict-call-settled (EncodeOutcome e i q frame before) (encode-settled e i q frame before) m n a b
+
+  pub ironsimmer-encode-portion-settled : (e i q : ℕ) (numbers : List ℕ) (rows : List (List ℕ)) (portion before j k : List ℕ) (r t : List (List ℕ))
+      → PortionCall e i q numbers rows portion before m j r a → PortionCall e i q numbers rows portion before n k t b → (m ≡ n) × (j ≡ k) × (r ≡ t) × (a ≡ b)
+  ironsimmer-encode-portion-settled e i q numbers rows portion before j k r t =
+      portioning-call-settled (PortionOutcome e i q (stateOf numbers rows) portion before) (portion-settled e i q (stateOf numbers rows) portion before) numbers rows m n j k r t a b
+
+  pub ironsimmer-encode-close-settled : (e i q : ℕ) (numbers : List ℕ) (rows : List (List ℕ)) (before j k : List ℕ) (r t : List (List ℕ))
+      → CloseCall e i q numbers rows before m j r a → CloseCall e i q numbers rows before n k t b → (m ≡ n) × (j ≡ k) × (r ≡ t) × (a ≡ b)
+  ironsimmer-encode-close-settled e i q numbers rows before j k r t =
+      portioning-call-settled (CloseOutcome e i q (stateOf numbers rows) before) (close-settled e i q (stateOf numbers rows) before) numbers rows m n j k r t a b
 
   pub ironsimmer-randomise-settled : (before : List ℕ) → RandomiseCall before m a → RandomiseCall before n b → (m ≡ n) × (a ≡ b)
   ironsimmer-randomise-settled before = verdict-call-settled (RandomiseOutcome before) (λ v w c d. randomise-settled before c d v w) m n a b

@@ -19,7 +19,7 @@ use Rattle.refusals.specs.declared.Verdict.the-variants.{Accepted}
 use Rattle.refusals.proofs.Orders.{Clear, clear-accepted}
 use Rattle.refusals.proofs.Legal.{LegalWords}
 use Rattle.refusals.proofs.Verdicts.{still-open, passed}
-use Rattle.refusals.proofs.Settled.{verdict-known, verdict-settled, encode-parameters-settled}
+use Rattle.refusals.proofs.Settled.{verdict-known, verdict-settled, encode-parameters-settled, close-parameters-settled}
 use Rattle.codewords.specs.Words.{Octets, withFill}
 use Rattle.reed_solomon.specs.declared.Row.{Row}
 use Rattle.reed_solomon.specs.declared.Progress.{Progress}
@@ -134,6 +134,17 @@ cut-accepted e i q state (portion ∷ portions) legal unclosed small within =
   where
     first : FirstOf (portionOrder e i q (length portion) (length portion) (state .place) (state .closed)) 0
     first = portion-accepted e i q (length portion) (length portion) (state .place) (state .closed) legal (small .0) refl unclosed (omega (arith, length-append portion (joined portions)))
+
+-- and a close at the frame's end
+pub close-accepted : (e i q : ℕ) (state : Progress) (before : List ℕ) (answer : Verdict) (next : Progress) (after : List ℕ) → CloseOutcome e i q state before answer next after
+    → LegalWords e i q → state .closed ≡ false → state .place ≡ frameLength e i q → length before ≡ checksLength e i → answer ≡ Accepted
+close-accepted e i q state before answer next after K legal unclosed whole fits =
+    close-parameters-settled answer Accepted e i q (length before) (state .place) (state .closed) (K .number)
+    (clear-accepted (closeOrder e i q (length before) (state .place) (state .closed))
+    (words .0, (words .1 .0, (words .1 .1 .0, (λ n. n fits, (still-open (state .closed) unclosed (λ n. n whole), tt))))))
+  where
+    words : Clear (wordParameters e i q)
+    words = words-clear e i q legal
 
 -- ---- the place never passes the frame
 
@@ -311,5 +322,12 @@ close-settled e i q state before v w s t a b A B =
     some : v ≡ Accepted → 0 < i
     some accepts = omega (arith, close-legal e i q (length before) (state .place) (state .closed) (passed (closeOrder e i q (length before) (state .place) (state .closed)) v accepts (A .number)) .words .some)
 
+-- what is stated as an equation
 pub start-settled : (s t : Progress) → s ≡ noneTaken → t ≡ noneTaken → s ≡ t
 start-settled s t a b = a ∙ sym b
+
+pub octet-rows-settled : (rows : List Row) (a b : List (List ℕ)) → a ≡ octetRows rows → b ≡ octetRows rows → a ≡ b
+octet-rows-settled rows a b p q = p ∙ sym q
+
+pub held-rows-settled : (lists : List (List ℕ)) (a b : List Row) → a ≡ heldRows lists → b ≡ heldRows lists → a ≡ b
+held-rows-settled lists a b p q = p ∙ sym q
