@@ -13,13 +13,7 @@ use refusals::Verdict;
 
 // The symbols enter in turn from word `first` on, whole frame or portion: a counter that starts anew spares a division for each symbol.
 // The table is a local of the loop, which no lent row can be a part of: so it is kept in registers.
-pub(crate) fn enter(
-    e: u32,
-    rows: &mut [[u8; 32]; 8],
-    first: usize,
-    symbols: &[u8],
-    depth: usize,
-)
+pub(crate) fn enter(e: u32, rows: &mut [[u8; 32]; 8], first: usize, symbols: &[u8], depth: usize)
     requires { ⌜ OneOf strengths e × (first < depth) × (depth ≤ 8) × (length (now rows) ≡ 8) ⌝ }
     ensures { λ _. ⌜ RowsOn e depth first (now (rows .entry)) (now (symbols .entry)) (now (rows .exit)) ⌝ }
 {

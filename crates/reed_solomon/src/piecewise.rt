@@ -9,6 +9,8 @@ use crate::encoder::enter;
 use crate::encoder::put_checks;
 use octets::copy_front;
 use refusals::Verdict;
+use refusals::close_parameters;
+use refusals::portion_parameters;
 
 pub fn start() -> Progress
     ensures { λ r. ⌜ r ≡ noneTaken ⌝ }
@@ -96,7 +98,7 @@ pub fn portion(
 {
     let n = symbols.len();
     let place = state.place;
-    let verdict = refusals::portion_parameters(e, depth, fill, n, written.len(), place, state.closed);
+    let verdict = portion_parameters(e, depth, fill, n, written.len(), place, state.closed);
     if let Verdict::Refused(p) = verdict {
         return Portioned {
             verdict: Verdict::Refused(p),
@@ -123,7 +125,7 @@ pub fn close(e: u32, depth: u32, fill: u32, state: Progress, checks: &mut [u8]) 
     ensures { λ r. ⌜ CloseOutcome e depth fill state (now (checks .entry)) (r .verdict) (r .state) (now (checks .exit)) ⌝ }
 {
     let place = state.place;
-    let verdict = refusals::close_parameters(e, depth, fill, checks.len(), place, state.closed);
+    let verdict = close_parameters(e, depth, fill, checks.len(), place, state.closed);
     if let Verdict::Refused(p) = verdict {
         return Portioned {
             verdict: Verdict::Refused(p),
