@@ -1,6 +1,6 @@
 //! That the sides answer alike: on every timed input, and on a sweep of parameters, limits and refusals.
 
-use crate::calls::{Calls, Code};
+use crate::calls::{Calls, Code, State};
 use crate::cases::{Case, Lent};
 use crate::data::Draw;
 
@@ -46,12 +46,46 @@ fn one_of(draw: &mut Draw, legal: &[u32], others: &[u32]) -> u32 {
     from[draw.below(from.len())]
 }
 
-fn words(draw: &mut Draw, sides: &[&dyn Calls]) -> u64 {
+fn any_code(draw: &mut Draw) -> (Code, bool) {
     let e = one_of(draw, &[8, 16], &[0, 7, 9, 15, 17, u32::MAX]);
     let depth = one_of(draw, &[1, 2, 3, 4, 5, 8], &[0, 6, 7, 9, u32::MAX]);
     let fill = one_of(draw, &[0, 1, 100, 222], &[223, 238, 239, u32::MAX]);
     let code = Code { e, depth, fill };
     let fits = (8..=16).contains(&e) && depth <= 8 && fill < 255 - 2 * e;
+    (code, fits)
+}
+
+/// A portion and a close from a drawn state, mostly about the frame's end.
+fn portions(draw: &mut Draw, sides: &[&dyn Calls]) {
+    let (code, fits) = any_code(draw);
+    let (frame_len, checks_len) = if fits {
+        (code.frame_len(), code.checks_len())
+    } else {
+        (1, 32)
+    };
+    let n = [0, 1, 2, 5, 16, 300, 301][draw.below(7)];
+    let portion = draw.octets(n);
+    let closed = one_of(draw, &[0], &[1, u32::MAX]);
+    let mut fresh = Lent::new(about(draw, n));
+    fresh.state = State {
+        progress: [about(draw, frame_len.saturating_sub(n)) as u32, closed],
+        rows: std::array::from_fn(|_| std::array::from_fn(|_| draw.below(256) as u8)),
+    };
+    let what = format!("portion, {code:?}, {n} octets");
+    let (_, taken) = alike(sides, &fresh, &what, |side, lent| {
+        side.portion(code, &mut lent.state, &portion, &mut lent.octets)
+    });
+    let mut fresh = Lent::new(about(draw, checks_len));
+    fresh.state = taken.state;
+    let what = format!("close, {code:?}");
+    alike(sides, &fresh, &what, |side, lent| {
+        side.close(code, &mut lent.state, &mut lent.octets)
+    });
+}
+
+fn words(draw: &mut Draw, sides: &[&dyn Calls]) -> u64 {
+    let (code, fits) = any_code(draw);
+    let Code { e, depth, .. } = code;
     let (frame_len, block_len) = if fits {
         (code.frame_len(), code.block_len())
     } else {
@@ -116,6 +150,7 @@ pub fn of_sweep(sides: &[&dyn Calls], draws: usize) -> [usize; 11] {
     let mut answers = [0; 11];
     for n in 0..draws {
         answers[words(&mut draw, sides) as usize] += 1;
+        portions(&mut draw, sides);
         octets(&mut draw, sides);
         if n % 20 == 0 {
             stream(&mut draw, sides);

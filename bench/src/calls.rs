@@ -13,8 +13,28 @@ impl Code {
         ((255 - 2 * self.e - self.fill) * self.depth) as usize
     }
 
+    pub fn checks_len(self) -> usize {
+        (2 * self.e * self.depth) as usize
+    }
+
     pub fn block_len(self) -> usize {
         ((255 - self.fill) * self.depth) as usize
+    }
+}
+
+/// The state of a frame in portions: place and closed, and the rows of checks.
+#[derive(Clone, Copy, Debug, PartialEq)]
+pub struct State {
+    pub progress: [u32; 2],
+    pub rows: [[u8; 32]; 8],
+}
+
+impl State {
+    pub fn start() -> State {
+        State {
+            progress: [0; 2],
+            rows: [[0; 32]; 8],
+        }
     }
 }
 
@@ -25,6 +45,10 @@ pub const SPENT: u64 = 3;
 
 pub trait Calls {
     fn encode(&self, code: Code, frame: &[u8], block: &mut [u8]) -> u64;
+
+    fn portion(&self, code: Code, state: &mut State, portion: &[u8], written: &mut [u8]) -> u64;
+
+    fn close(&self, code: Code, state: &mut State, checks: &mut [u8]) -> u64;
 
     fn decode(
         &self,

@@ -1,6 +1,6 @@
 //! The cases that are timed: each a call on inputs that were made beforehand.
 
-use crate::calls::{Calls, Code, ABSENT, FOUND};
+use crate::calls::{Calls, Code, State, ABSENT, FOUND};
 use crate::data::Draw;
 
 /// Different inputs in turn, so that no side's branches are learnt by heart.
@@ -14,6 +14,7 @@ pub struct Lent {
     pub counts: [u32; 9],
     pub found: [u64; 4],
     pub count: u32,
+    pub state: State,
 }
 
 impl Lent {
@@ -24,12 +25,17 @@ impl Lent {
             counts: [170; 9],
             found: [170; 4],
             count: 170,
+            state: State::start(),
         }
     }
 }
 
 enum Work {
     Encode(Code),
+    /// A whole frame in portions of so many octets, and the close.
+    Portions(Code, usize),
+    /// As many empty portions as the frame has octets.
+    EmptyPortions(Code),
     Decode(Code),
     Search,
     Convolve(u32),
@@ -54,6 +60,10 @@ impl Case {
         let (read, out) = (&input.read, &mut lent.octets);
         match self.work {
             Work::Encode(code) => side.encode(code, read, out),
+            Work::Portions(code, size) => in_portions(side, code, size, read, lent),
+            Work::EmptyPortions(code) => (read.iter())
+                .map(|_| side.portion(code, &mut lent.state, &[], &mut []))
+                .fold(0, |all, number| all | number),
             Work::Decode(code) => side.decode(code, code.e, read, out, &mut lent.counts),
             Work::Search => side.search(3, read, 0, u64::MAX, &mut lent.found),
             Work::Convolve(rate) => side.convolve(rate, read, out, &mut lent.count),
@@ -92,6 +102,48 @@ fn encode(draw: &mut Draw, e: u32) -> Case {
     };
     let name = format!("encode, E {e}, I 5, Q 0");
     Case::new(name, Work::Encode(code), code.block_len(), input)
+}
+
+fn in_portions(side: &dyn Calls, code: Code, size: usize, frame: &[u8], lent: &mut Lent) -> u64 {
+    lent.state = State::start();
+    let (information, checks) = lent.octets.split_at_mut(frame.len());
+    let both = frame.chunks(size).zip(information.chunks_mut(size));
+    for (portion, written) in both {
+        let number = side.portion(code, &mut lent.state, portion, written);
+        if number != 0 {
+            return number;
+        }
+    }
+    side.close(code, &mut lent.state, checks)
+}
+
+/// Whole frames; the block is that of one call.
+fn portions(draw: &mut Draw, side: &dyn Calls, size: usize) -> Case {
+    let code = code(16);
+    let input = || {
+        let frame = draw.octets(code.frame_len());
+        let mut block = vec![0; code.block_len()];
+        assert_eq!(side.encode(code, &frame, &mut block), 0);
+        let mut lent = Lent::new(block.len());
+        assert_eq!(in_portions(side, code, size, &frame, &mut lent), 0);
+        assert_eq!(lent.octets, block, "another block in portions of {size}");
+        Input {
+            read: frame,
+            expected: Some(lent),
+        }
+    };
+    let name = format!("encode in portions of {size}, E 16, I 5, Q 0");
+    Case::new(name, Work::Portions(code, size), code.block_len(), input)
+}
+
+fn empty_portions(draw: &mut Draw) -> Case {
+    let code = code(16);
+    let input = || Input {
+        read: draw.octets(code.frame_len()),
+        expected: None,
+    };
+    let name = format!("{} empty portions, E 16, I 5, Q 0", code.frame_len());
+    Case::new(name, Work::EmptyPortions(code), 0, input)
 }
 
 fn decode(draw: &mut Draw, side: &dyn Calls, e: u32, wrong: u32) -> Case {
@@ -157,6 +209,10 @@ fn randomise() -> Case {
 pub fn all(side: &dyn Calls) -> Vec<Case> {
     let mut draw = Draw::new(1);
     let mut cases = vec![encode(&mut draw, 16), encode(&mut draw, 8)];
+    for size in [300, 16, 1] {
+        cases.push(portions(&mut draw, side, size));
+    }
+    cases.push(empty_portions(&mut draw));
     for (e, wrong) in [(16, 0), (16, 8), (16, 16), (8, 0), (8, 4), (8, 8)] {
         cases.push(decode(&mut draw, side, e, wrong));
     }

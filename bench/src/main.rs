@@ -64,6 +64,35 @@ fn write_row(sides: &mut [Timing]) {
     println!();
 }
 
+/// The best times, in microseconds, of the cases whose names begin so.
+fn best(timings: &mut [Vec<Timing>], name: &str) -> f64 {
+    let sides = timings
+        .iter_mut()
+        .find(|sides| sides[0].case_name().starts_with(name));
+    sides.expect("a case of that name")[0].result().0
+}
+
+/// What portions cost beside one call: a frame of 1115 octets is as many steps.
+fn write_portions(timings: &mut [Vec<Timing>]) {
+    let mut ours = |name: &str| best(timings, name);
+    let whole = ours("encode, E 16");
+    let [long, middle, single] = [300, 16, 1].map(|n| ours(&format!("encode in portions of {n},")));
+    let nanoseconds = |time: f64| 1000.0 * time / 1115.0;
+    println!();
+    println!(
+        "Ours, of the best: a frame in portions of 300, 16 and 1 octets takes {:.2}, {:.2} and {:.2} times one call.",
+        long / whole,
+        middle / whole,
+        single / whole
+    );
+    println!(
+        "A portion of 1 octet takes {:.1} ns; an empty one, which copies the state in and out, {:.1} ns, and a step of one call {:.1} ns.",
+        nanoseconds(single),
+        nanoseconds(ours("1115 empty portions")),
+        nanoseconds(whole)
+    );
+}
+
 fn main() {
     let plain = Baseline::new(Form::Plain);
     let faster = Baseline::new(Form::Faster);
@@ -88,4 +117,5 @@ fn main() {
     println!("| Case | Ours | Plain Rust | Ratio | Faster plain Rust | Ratio |");
     println!("|---|---|---|---|---|---|");
     timings.iter_mut().for_each(|sides| write_row(sides));
+    write_portions(&mut timings);
 }

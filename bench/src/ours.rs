@@ -1,6 +1,6 @@
 //! The proved code, through its C interface.
 
-use crate::calls::{Calls, Code};
+use crate::calls::{Calls, Code, State};
 
 extern "C" {
     fn ironsimmer_encode(
@@ -11,6 +11,26 @@ extern "C" {
         frame_len: usize,
         block: *mut u8,
         block_len: usize,
+    ) -> u64;
+    fn ironsimmer_encode_portion(
+        e: u32,
+        depth: u32,
+        fill: u32,
+        progress: *mut u32,
+        rows: *mut [u8; 32],
+        portion: *const u8,
+        portion_len: usize,
+        written: *mut u8,
+        written_len: usize,
+    ) -> u64;
+    fn ironsimmer_encode_close(
+        e: u32,
+        depth: u32,
+        fill: u32,
+        progress: *mut u32,
+        rows: *mut [u8; 32],
+        checks: *mut u8,
+        checks_len: usize,
     ) -> u64;
     fn ironsimmer_decode(
         e: u32,
@@ -60,6 +80,31 @@ impl Calls for Ours {
                 out,
                 block.len(),
             )
+        }
+    }
+
+    fn portion(&self, code: Code, state: &mut State, portion: &[u8], written: &mut [u8]) -> u64 {
+        let (progress, rows) = (state.progress.as_mut_ptr(), state.rows.as_mut_ptr());
+        unsafe {
+            ironsimmer_encode_portion(
+                code.e,
+                code.depth,
+                code.fill,
+                progress,
+                rows,
+                portion.as_ptr(),
+                portion.len(),
+                written.as_mut_ptr(),
+                written.len(),
+            )
+        }
+    }
+
+    fn close(&self, code: Code, state: &mut State, checks: &mut [u8]) -> u64 {
+        let (progress, rows) = (state.progress.as_mut_ptr(), state.rows.as_mut_ptr());
+        let (out, out_len) = (checks.as_mut_ptr(), checks.len());
+        unsafe {
+            ironsimmer_encode_close(code.e, code.depth, code.fill, progress, rows, out, out_len)
         }
     }
 

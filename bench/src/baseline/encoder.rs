@@ -61,13 +61,29 @@ impl Encoder {
         }
     }
 
-    /// The check octets of each word of a frame, as line octets.
-    pub fn checks(&self, code: Code, frame: &[u8]) -> [[u8; 32]; 8] {
-        let rows = if code.e == 8 {
+    fn rows(&self, e: u32) -> &[Row] {
+        if e == 8 {
             &self.eight
         } else {
             &self.sixteen
-        };
+        }
+    }
+
+    /// A word's check octets when one more symbol has entered.
+    #[inline(always)]
+    pub fn entered(&self, e: u32, checks: [u8; 32], symbol: u8) -> [u8; 32] {
+        let part = |j: usize| u64::from_le_bytes(std::array::from_fn(|k| checks[8 * j + k]));
+        let after = stepped(self.rows(e), std::array::from_fn(part), symbol);
+        let mut octets = [0; 32];
+        for (eight, part) in octets.chunks_exact_mut(8).zip(after) {
+            eight.copy_from_slice(&part.to_le_bytes());
+        }
+        octets
+    }
+
+    /// The check octets of each word of a frame, as line octets.
+    pub fn checks(&self, code: Code, frame: &[u8]) -> [[u8; 32]; 8] {
+        let rows = self.rows(code.e);
         let mut checks = [[0; 4]; 8];
         // Word after word would wait for each feedback in turn; in the order of the frame the words overlap.
         for symbols in frame.chunks_exact(code.depth as usize) {

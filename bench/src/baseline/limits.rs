@@ -1,6 +1,6 @@
 //! The checks of parameters and lengths: the refusal's number, 0 if there is none.
 
-use crate::calls::Code;
+use crate::calls::{Code, State};
 
 fn code(code: Code) -> u64 {
     if code.e != 8 && code.e != 16 {
@@ -27,6 +27,25 @@ fn lengths(input: usize, required_input: usize, output: usize, required_output: 
 pub fn encode(parameters: Code, frame: usize, block: usize) -> u64 {
     match code(parameters) {
         0 => lengths(frame, parameters.frame_len(), block, parameters.block_len()),
+        number => number,
+    }
+}
+
+pub fn portion(parameters: Code, state: State, portion: usize, written: usize) -> u64 {
+    let [place, closed] = state.progress;
+    match code(parameters) {
+        0 if portion > 300 => 5,
+        0 if written != portion => 6,
+        0 if closed != 0 || place as usize + portion > parameters.frame_len() => 14,
+        number => number,
+    }
+}
+
+pub fn close(parameters: Code, state: State, checks: usize) -> u64 {
+    let [place, closed] = state.progress;
+    match code(parameters) {
+        0 if checks != parameters.checks_len() => 6,
+        0 if closed != 0 || place as usize != parameters.frame_len() => 14,
         number => number,
     }
 }

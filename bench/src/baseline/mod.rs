@@ -6,10 +6,11 @@ mod encoder;
 mod errors;
 mod limits;
 mod marker;
+mod portions;
 mod randomiser;
 mod tables;
 
-use crate::calls::{Calls, Code};
+use crate::calls::{Calls, Code, State};
 use convolution::ByOctets;
 use encoder::Encoder;
 use randomiser::Sequence;
@@ -45,6 +46,18 @@ impl Baseline {
 impl Calls for Baseline {
     fn encode(&self, code: Code, frame: &[u8], block: &mut [u8]) -> u64 {
         self.encoder.encode(code, frame, block)
+    }
+
+    fn portion(&self, code: Code, state: &mut State, portion: &[u8], written: &mut [u8]) -> u64 {
+        let (number, next) = portions::portion(&self.encoder, code, *state, portion, written);
+        *state = next;
+        number
+    }
+
+    fn close(&self, code: Code, state: &mut State, checks: &mut [u8]) -> u64 {
+        let (number, next) = portions::close(code, *state, checks);
+        *state = next;
+        number
     }
 
     fn decode(
