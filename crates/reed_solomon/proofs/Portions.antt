@@ -35,11 +35,12 @@ use Rattle.reed_solomon.proofs.PortionSteps.{PortionLegal, portion-lega
 
 -- ---- the state
 
-held-octets : (lists : List (List ℕ)) → octetRows (heldRows lists) ≡ lists
+-- rows and their octets are the same, either way
+pub held-octets : (lists : List (List ℕ)) → octetRows (heldRows lists) ≡ lists
 held-octets [] = refl
 held-octets (octets ∷ lists) = ap {B = List (List ℕ)} (λ (l : List (List ℕ)). octets ∷ l) (held-octets lists)
 
-octets-held : (rows : List Row) → heldRows (octetRows rows) ≡ rows
+pub octets-held : (rows : List Row) → heldRows (octetRows rows) ≡ rows
 octets-held [] = refl
 octets-held (row ∷ rows) = ap {B = List Row} (λ (l : List Row). row ∷ l) (octets-held rows)
 

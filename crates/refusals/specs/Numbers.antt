@@ -1,4 +1,4 @@
--- The number of each refusal and the value that it carries (document 01, "Refusal numbers and the order of checks").
+-- The number of each refusal and the value that it carries (document 01, "Refusal numbers and the order of checks"; document 02, (ii)).
 use Prim.Native.Nat.{ℕ}
 use Rattle.refusals.specs.declared.Parameter.{Parameter}
 use Rattle.refusals.specs.declared.Parameter.the-variants.{Strength, Depth, Fill, Allowance, Input, Output, Rate, Tolerance, Start, Progress}

@@ -1,4 +1,4 @@
-// The refusals of document 01: their names and numbers, and the checks of parameters and lengths that the calls share.
+// The refusals of documents 01 and 02: their names and numbers, and the checks of parameters and lengths that the calls share.
 mod checks;
 mod numbers;
 mod portions;
@@ -18,7 +18,7 @@ pub use numbers::verdict_number;
 pub use portions::close_parameters;
 pub use portions::portion_parameters;
 
-// A parameter or a length that is not legal, or a state that has not come so far or is past it.
+// A parameter or a length that is not legal, or a frame in portions that a call would pass, finds unfinished, or finds closed.
 pub enum Parameter {
     Strength,
     Depth,
