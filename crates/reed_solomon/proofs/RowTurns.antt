@@ -8,10 +8,8 @@ use native.Mathlib.Decide.{ℕ-discrete}
 use native.Mathlib.Omega.{arith}
 use lib.ListN.{length, take, getD, set, replicate, length-set, getD-replicate}
 use lib.Seq.{getD-set-same, getD-set-other, length-take-le, take-suc, take-length}
-use Rattle.refusals.specs.Order.{OneOf}
-use Rattle.refusals.specs.Sizes.{strengths}
 use Rattle.reed_solomon.specs.Rows.{entered, inRow, rowsEntered, noRows}
-use Rattle.reed_solomon.specs.EncoderWorking.{StrengthTable, Stepped, rowAfter, RowsOn}
+use Rattle.reed_solomon.specs.EncoderWorking.{Stepped, rowAfter, RowsBy}
 use Rattle.reed_solomon.proofs.Interleaving.{word-of, place-symbol}
 use Rattle.reed_solomon.proofs.CheckRows.{long-row}
 
@@ -64,34 +62,33 @@ module _ (generator : List ℕ) (i : ℕ) where
 -- ---- the loop
 
 -- the first octets have entered, and the next is of `word`
-pub record Turn (e i first : ℕ) (before : List (List ℕ)) (symbols : List ℕ) (at word : ℕ) (rows : List (List ℕ)) : Type 0 where
+pub record Turn (table : List ℕ) (i first : ℕ) (before : List (List ℕ)) (symbols : List ℕ) (at word : ℕ) (rows : List (List ℕ)) : Type 0 where
   pub within : word < i
   pub size : length rows ≡ 8
   pub next : (place : ℕ) → place % i ≡ first → (place + at) % i ≡ word
-  pub done : RowsOn e i first before (take at symbols) rows
+  pub done : RowsBy table i first before (take at symbols) rows
 
-module _ (e i first : ℕ) (before : List (List ℕ)) (symbols : List ℕ) where
-  pub turn-start : first < i → length before ≡ 8 → Turn e i first before symbols 0 first before
+module _ (table : List ℕ) (i first : ℕ) (before : List (List ℕ)) (symbols : List ℕ) where
+  pub turn-start : first < i → length before ≡ 8 → Turn table i first before symbols 0 first before
   unfolding rowsEntered
   turn-start h l =
       record {
         within = h;
         size = l;
         next = λ place p. ap (λ (n : ℕ). n % i) (add-zero place) ∙ p;
-        done = λ place p. refl;
+        done = λ e strength listed place p. refl;
       }
 
-  module _ (table : List ℕ) (strength : OneOf strengths e) (listed : StrengthTable e table) (at word : ℕ) (rows after : List (List ℕ)) (row : List ℕ)
-      (T : Turn e i first before symbols at word rows) (h : at < length symbols) (sets : after ≡ set rows word row)
-      (steps : Stepped table (getD rows word []) (getD symbols at 0) row) where
-    more : RowsOn e i first before (take (at + 1) symbols) after
-    more place p =
+  module _ (at word : ℕ) (rows after : List (List ℕ)) (row : List ℕ) (T : Turn table i first before symbols at word rows) (h : at < length symbols)
+      (sets : after ≡ set rows word row) (steps : Stepped table (getD rows word []) (getD symbols at 0) row) where
+    more : RowsBy table i first before (take (at + 1) symbols) after
+    more e strength listed place p =
         sets
         ∙ ap (set rows word) (steps (inRow e) (long-row e strength) listed)
-        ∙ ap (λ (r : List (List ℕ)). set r word (entered (inRow e) (getD r word []) (getD symbols at 0))) (T .done place p)
+        ∙ ap (λ (r : List (List ℕ)). set r word (entered (inRow e) (getD r word []) (getD symbols at 0))) (T .done e strength listed place p)
         ∙ sym (entered-next (inRow e) i symbols place before at word h (T .next place p))
 
-    turned : (word′ : ℕ) → word′ < i → ((n : ℕ) → n % i ≡ word → (n + 1) % i ≡ word′) → Turn e i first before symbols (at + 1) word′ after
+    turned : (word′ : ℕ) → word′ < i → ((n : ℕ) → n % i ≡ word → (n + 1) % i ≡ word′) → Turn table i first before symbols (at + 1) word′ after
     turned word′ below moves =
         record {
           within = below;
@@ -100,14 +97,14 @@ module _ (e i first : ℕ) (before : List (List ℕ)) (symbols : List ℕ) where
           done = more;
         }
 
-    pub turn-word : (word′ : ℕ) → word′ ≡ word + 1 → (word + 1 ≡ i → ⊥) → Turn e i first before symbols (at + 1) word′ after
+    pub turn-word : (word′ : ℕ) → word′ ≡ word + 1 → (word + 1 ≡ i → ⊥) → Turn table i first before symbols (at + 1) word′ after
     turn-word word′ p d = turned word′ (omega (arith, T .within)) (λ n r. next-place i n word r (omega (arith, T .within)) ∙ sym p)
 
-    pub turn-symbol : (word′ : ℕ) → word′ ≡ 0 → word + 1 ≡ i → Turn e i first before symbols (at + 1) word′ after
+    pub turn-symbol : (word′ : ℕ) → word′ ≡ 0 → word + 1 ≡ i → Turn table i first before symbols (at + 1) word′ after
     turn-symbol word′ p d = turned word′ (omega arith) (λ n r. next-turn i n word r d ∙ sym p)
 
-  pub turn-end : (at word : ℕ) (rows : List (List ℕ)) → at ≡ length symbols → Turn e i first before symbols at word rows → RowsOn e i first before symbols rows
-  turn-end at word rows p T = subst (λ (list : List ℕ). RowsOn e i first before list rows) (ap (λ (n : ℕ). take n symbols) p ∙ take-length symbols) (T .done)
+  pub turn-end : (at word : ℕ) (rows : List (List ℕ)) → at ≡ length symbols → Turn table i first before symbols at word rows → RowsBy table i first before symbols rows
+  turn-end at word rows p T = subst (λ (list : List ℕ). RowsBy table i first before list rows) (ap (λ (n : ℕ). take n symbols) p ∙ take-length symbols) (T .done)
 
 -- ---- a whole frame
 

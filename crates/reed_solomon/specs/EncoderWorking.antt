@@ -4,6 +4,8 @@ use mathlib.Core.List.{List, [], _∷_, _++_, map}
 use Prim.Native.Nat.{ℕ, zero, suc, _+_, _-_, _*_, _/_, _%_, _^_, _<_}
 use lib.ListN.{length, take, getD, replicate}
 use Rattle.field.specs.Field.{_⊕_, whereSet}
+use Rattle.refusals.specs.Order.{OneOf}
+use Rattle.refusals.specs.Sizes.{strengths}
 use Rattle.reed_solomon.specs.Rows.{product, entered, inRow, rowsEntered}
 
 -- The table of a generator: for each bit of the feedback, top bit first, what that bit alone adds.
@@ -37,9 +39,12 @@ unfoldable pub rowAfter : List ℕ → ℕ → List ℕ → ℕ → ℕ → List
 rowAfter generator i frame w zero = replicate 32 0
 rowAfter generator i frame w (suc k) = entered generator (rowAfter generator i frame w k) (getD frame (k * i + w) 0)
 
--- The rows when symbols have entered, the first of them at any place of that word.
+-- The rows when symbols have entered, the first of them at any place of that word; and so by the table of that strength.
 abbrev pub RowsOn : ℕ → ℕ → ℕ → List (List ℕ) → List ℕ → List (List ℕ) → Type 0
 RowsOn e i word rows symbols after = (place : ℕ) → place % i ≡ word → after ≡ rowsEntered (inRow e) i place rows symbols
+
+abbrev pub RowsBy : List ℕ → ℕ → ℕ → List (List ℕ) → List ℕ → List (List ℕ) → Type 0
+RowsBy table i word rows symbols after = (e : ℕ) → OneOf strengths e → StrengthTable e table → RowsOn e i word rows symbols after
 
 -- From octet `start` on the block holds the rows interleaved; what stands before is as it was.
 pub record ChecksPut (rows : List (List ℕ)) (i start : ℕ) (before after : List ℕ) : Type 0 where

@@ -1,21 +1,7 @@
 // A word's row of check octets, as they stand on the line, while information symbols enter.
 ghost use mathlib.Core.Path.{_≡_};
 ghost use Prim.Native.Nat.{_*_, _<_};
-ghost use Rattle.refusals.specs.Order.{OneOf};
-ghost use Rattle.refusals.specs.Sizes.{strengths};
-ghost use Rattle.reed_solomon.specs.EncoderWorking.{StrengthTable, MovedUp, BitAdded, Stepped};
-use crate::table_8::TABLE_8;
-use crate::table_16::TABLE_16;
-
-pub(crate) fn table_of(e: u32) -> [u8; 256]
-    requires { ⌜ OneOf strengths e ⌝ }
-    ensures { λ r. ⌜ StrengthTable e r ⌝ }
-{
-    if e == 8 {
-        return TABLE_8;
-    }
-    TABLE_16
-}
+ghost use Rattle.reed_solomon.specs.EncoderWorking.{MovedUp, BitAdded, Stepped};
 
 fn moved_up(row: [u8; 32]) -> [u8; 32]
     ensures { λ r. ⌜ MovedUp row r ⌝ }

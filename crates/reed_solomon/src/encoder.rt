@@ -4,20 +4,26 @@ ghost use Prim.Native.Nat.{_+_, _*_, _≤_, _<_};
 ghost use lib.ListN.{length};
 ghost use Rattle.refusals.specs.Order.{OneOf};
 ghost use Rattle.refusals.specs.Sizes.{strengths};
-ghost use Rattle.reed_solomon.specs.EncoderWorking.{RowsOn, ChecksPut};
+ghost use Rattle.reed_solomon.specs.EncoderWorking.{RowsBy, RowsOn, ChecksPut};
 ghost use Rattle.reed_solomon.specs.Outcome.{EncodeOutcome};
 use crate::checks::stepped;
-use crate::checks::table_of;
+use crate::table_8::TABLE_8;
+use crate::table_16::TABLE_16;
 use octets::copy_front;
 use refusals::Verdict;
 
 // The symbols enter in turn from word `first` on, whole frame or portion: a counter that starts anew spares a division for each symbol.
-// The table is a local of the loop, which no lent row can be a part of: so it is kept in registers.
-pub(crate) fn enter(e: u32, rows: &mut [[u8; 32]; 8], first: usize, symbols: &[u8], depth: usize)
-    requires { ⌜ OneOf strengths e × (first < depth) × (depth ≤ 8) × (length (now rows) ≡ 8) ⌝ }
-    ensures { λ _. ⌜ RowsOn e depth first (now (rows .entry)) (now (symbols .entry)) (now (rows .exit)) ⌝ }
+// The table comes by value: of a local the compiler knows that no lent row is a part of it, and keeps it in registers.
+fn enter_by(
+    table: [u8; 256],
+    rows: &mut [[u8; 32]; 8],
+    first: usize,
+    symbols: &[u8],
+    depth: usize,
+)
+    requires { ⌜ (first < depth) × (depth ≤ 8) × (length (now rows) ≡ 8) ⌝ }
+    ensures { λ _. ⌜ RowsBy table depth first (now (rows .entry)) (now (symbols .entry)) (now (rows .exit)) ⌝ }
 {
-    let table = table_of(e);
     let mut word = first;
     let n = symbols.len();
     for at in 0..n {
@@ -28,6 +34,22 @@ pub(crate) fn enter(e: u32, rows: &mut [[u8; 32]; 8], first: usize, symbols: &[u
             word = 0;
         }
     }
+}
+
+pub(crate) fn enter(
+    e: u32,
+    rows: &mut [[u8; 32]; 8],
+    first: usize,
+    symbols: &[u8],
+    depth: usize,
+)
+    requires { ⌜ OneOf strengths e × (first < depth) × (depth ≤ 8) × (length (now rows) ≡ 8) ⌝ }
+    ensures { λ _. ⌜ RowsOn e depth first (now (rows .entry)) (now (symbols .entry)) (now (rows .exit)) ⌝ }
+{
+    if e == 8 {
+        return enter_by(TABLE_8, rows, first, symbols, depth);
+    }
+    enter_by(TABLE_16, rows, first, symbols, depth)
 }
 
 // The checks follow the frame, interleaved as it is.

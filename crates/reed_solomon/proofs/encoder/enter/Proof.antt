@@ -1,81 +1,29 @@
--- `enter` lets each octet enter the row of its word: the rows are those that the octets so far have entered.
-use mathlib.Core.Path.{refl}
-use mathlib.Core.Logic.{⊎-elim}
-use Prim.Native.Nat.{_≤_, _-_}
-use native.Mathlib.Omega.{arith}
-use lib.ListN.{length}
-use Rattle.reed_solomon.proofs.RowTurns.{Turn, turn-start, turn-symbol, turn-word, turn-end}
+-- `enter` hands the table of its strength on: each table is that of the generator, by one computed test.
+use mathlib.Core.Path.{_≡_, refl, sym, subst}
+use Prim.Native.Nat.{ℕ}
+use Rattle.field.specs.Field.{_⊕_, _·_, whereSet, timesAlpha, shiftAndAdd, pow}
+use Rattle.field.specs.Line.{toLine, toConventional}
+use Rattle.codewords.specs.Polynomials.{_⊞_, scaled}
+use Rattle.reed_solomon.specs.Rows.{withRoot, rooted, generator}
+use Rattle.reed_solomon.specs.EncoderWorking.{tableRows, StrengthTable}
+use Rattle.reed_solomon.proofs.StepTables.{other-strength}
 use borrow.Author.Needs.{needs}
 use Rattle.reed_solomon.proofs.encoder.enter.Statement.{statement}
 use Rattle.reed_solomon.proofs.encoder.enter.Tie as tie
 
-abbrev Inv-loop : tie.InvT-loop
-Inv-loop e rows₀ first symbols depth table word₀ n at₀ rows word at = (at ≤ length symbols) × Turn e depth first rows₀ symbols at word rows
+enter-by-requires : tie.Need-enter-by-requires
+enter-by-requires c κs = search needs
 
-abbrev μ-loop : tie.MeasureT-loop
-μ-loop e rows₀ first symbols depth table word₀ n at₀ rows word at = length symbols - at
+returns : tie.Need-returns
+unfolding generator withRoot rooted _⊞_ scaled pow tableRows toLine toConventional _·_ shiftAndAdd timesAlpha whereSet _⊕_
+returns c = c .enter-by .ensures _ (c .before .before .before .before .pre .0) (subst (λ (e : ℕ). StrengthTable e _) (sym (c .before .before .if1 .taken)) refl)
 
-table-of-requires : tie.Need-table-of-requires Inv-loop μ-loop
-table-of-requires c κs = search needs
+enter-by-requires-2 : tie.Need-enter-by-requires-2
+enter-by-requires-2 c κs = search needs
 
-loop-holds : tie.Need-loop-holds Inv-loop μ-loop
-loop-holds c = (omega arith, turn-start _ _ _ _ _ (search needs) (search needs))
-
-mul-row : tie.Need-mul-row Inv-loop μ-loop
-mul-row c = search needs
-
-element-copy-out-row : tie.Need-element-copy-out-row Inv-loop μ-loop
-element-copy-out-row c = search needs
-
-shared-slice-read-stepped : tie.Need-shared-slice-read-stepped Inv-loop μ-loop
-shared-slice-read-stepped c = search needs
-
-stepped-requires : tie.Need-stepped-requires Inv-loop μ-loop
-stepped-requires c κs = search needs
-
-mul-t13 : tie.Need-mul-t13 Inv-loop μ-loop
-mul-t13 c = search needs
-
-element-set-from-rows : tie.Need-element-set-from-rows Inv-loop μ-loop
-element-set-from-rows c = search needs
-
-add-word : tie.Need-add-word Inv-loop μ-loop
-add-word c = search needs
-
-add-at : tie.Need-add-at Inv-loop μ-loop
-add-at c = search needs
-
-loop-less : tie.Need-loop-less Inv-loop μ-loop
-loop-less c = search needs
-
-loop-again : tie.Need-loop-again Inv-loop μ-loop
-loop-again c = (
-  omega arith,
-  ⊎-elim
-      (λ w. turn-symbol _ _ _ _ _ _ (c .before .before .before .before .before .before .before .before .before .pre .0) (c .before .before .before .before .before .before .before .table-of .ensures) _ (c .before .before .before .before .before .before .loop .word) _ _ _ (c .before .before .before .before .before .before .loop .inv .1) (omega arith) refl (c .before .stepped .ensures) _ (w .1) (w .0 .taken))
-      (λ w. turn-word _ _ _ _ _ _ (c .before .before .before .before .before .before .before .before .before .pre .0) (c .before .before .before .before .before .before .before .table-of .ensures) _ (c .before .before .before .before .before .before .loop .word) _ _ _ (c .before .before .before .before .before .before .loop .inv .1) (omega arith) refl (c .before .stepped .ensures) _ (w .1) (w .0 .left))
-      (c .if1 .came),
-)
-
-returns : tie.Need-returns Inv-loop μ-loop
-returns c = turn-end _ _ _ _ _ (c .before .loop .at) _ _ (omega arith) (c .before .loop .inv .1)
+returns-2 : tie.Need-returns-2
+unfolding generator withRoot rooted _⊞_ scaled pow tableRows toLine toConventional _·_ shiftAndAdd timesAlpha whereSet _⊕_
+returns-2 c = c .enter-by2 .ensures _ (c .before .before .before .before .pre .0) (subst (λ (e : ℕ). StrengthTable e _) (sym (other-strength _ (c .before .before .before .before .pre .0) (c .before .before .if1 .left))) refl)
 
 pub enter-spec : {M : Type 1} → statement M
-enter-spec =
-    tie.close
-    (tie.spec
-    Inv-loop
-    μ-loop
-    table-of-requires
-    loop-holds
-    mul-row
-    element-copy-out-row
-    shared-slice-read-stepped
-    stepped-requires
-    mul-t13
-    element-set-from-rows
-    add-word
-    add-at
-    loop-less
-    loop-again
-    returns)
+enter-spec = tie.close (tie.spec enter-by-requires returns enter-by-requires-2 returns-2)
