@@ -24,12 +24,12 @@ pub(crate) fn put(portioned: Portioned, progress: &mut [u32; 2], rows: &mut [[u8
         return refusals::parameter_number(parameter);
     }
     let state = portioned.state;
+    let held = state.rows;
+    *rows = reed_solomon::octet_rows(held);
     let mut closed = 0;
     if state.closed {
         closed = 1;
     }
     *progress = [state.place, closed];
-    let held = state.rows;
-    *rows = reed_solomon::octet_rows(held);
     0
 }

@@ -23,8 +23,8 @@ octet-rows-requires c κs = search needs
 returns-2 : tie.Need-returns-2
 returns-2 c =
     put-accepted _ _ _ _ _ _ (search)
-    (⊎-elim (λ w. told-closed _ _ (w .0 .taken) (w .1)) (λ w. told-open _ _ (w .0 .left) (w .1)) (c .before .before .before .if1 .came))
-    (c .octet-rows .ensures)
+    (⊎-elim (λ w. told-closed _ _ (w .0 .taken) (w .1)) (λ w. told-open _ _ (w .0 .left) (w .1)) (c .before .if1 .came))
+    (c .before .before .octet-rows .ensures)
 
 pub put-spec : {M : Type 1} → statement M
 put-spec =
