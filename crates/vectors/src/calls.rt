@@ -1,8 +1,11 @@
-// Encode, decode, transmit and receive, each with the line that its outcome makes.
+// Encode, in one call and in portions, decode, transmit and receive, each with the line that its outcome makes.
 use crate::print;
 use chain::Received;
 use chain::Stage;
 use reed_solomon::Decoded;
+use reed_solomon::Portioned;
+use reed_solomon::Progress;
+use reed_solomon::Row;
 use refusals::MarkerRefusal;
 use refusals::WordRefusal;
 
@@ -143,4 +146,55 @@ pub(crate) fn receive(
     print::numbers(&counts);
     print::buffer(frame);
     print::end();
+}
+
+// Row after row.
+fn all_rows(rows: [Row; 8]) -> [u8; 256] {
+    let mut octets = [0u8; 256];
+    for at in 0..256usize {
+        let row = rows[at / 32];
+        let held = row.octets;
+        octets[at] = held[at % 32];
+    }
+    octets
+}
+
+// The number of a portion or a close, and the place, flag and rows of the state that it leaves.
+fn progress(portioned: Portioned) -> Progress {
+    let verdict = portioned.verdict;
+    let state = portioned.state;
+    print::verdict(verdict);
+    print::number(state.place as u64);
+    flag(state.closed);
+    let rows = state.rows;
+    let octets = all_rows(rows);
+    print::buffer(&octets);
+    state
+}
+
+pub(crate) fn portion(
+    e: u32,
+    depth: u32,
+    fill: u32,
+    state: Progress,
+    symbols: &[u8],
+    written: &mut [u8],
+) -> Progress {
+    print::text(b"portion");
+    code(e, depth, fill);
+    let portioned = reed_solomon::portion(e, depth, fill, state, symbols, &mut *written);
+    let after = progress(portioned);
+    print::buffer(written);
+    print::end();
+    after
+}
+
+pub(crate) fn close(e: u32, depth: u32, fill: u32, state: Progress, checks: &mut [u8]) -> Progress {
+    print::text(b"close");
+    code(e, depth, fill);
+    let portioned = reed_solomon::close(e, depth, fill, state, &mut *checks);
+    let after = progress(portioned);
+    print::buffer(checks);
+    print::end();
+    after
 }

@@ -6,6 +6,7 @@ mod coding;
 mod convolving;
 mod limits;
 mod marking;
+mod portioning;
 mod print;
 mod randomising;
 mod symbols;
@@ -17,5 +18,6 @@ fn main() {
     convolving::all();
     limits::all();
     coding::all();
+    portioning::all();
     chaining::all();
 }

@@ -64,7 +64,7 @@ pub(crate) fn buffer(s: &[u8]) {
 }
 
 // The next of the numbers that stand in for data.
-fn turn(x: u32) -> u32 {
+pub(crate) fn turn(x: u32) -> u32 {
     (x % 65536 * 25173 + 13849) % 65536
 }
 

@@ -9,6 +9,7 @@ pub mod data;
 pub mod field;
 pub mod limits;
 pub mod marker;
+pub mod portion_cases;
 pub mod portions;
 pub mod randomiser;
 pub mod reed_solomon;

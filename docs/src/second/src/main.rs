@@ -2,7 +2,7 @@
 //! `second NAME` writes what the program NAME must write; `second report-input NAME` and `second report-output NAME` write what a
 //! report program reads and what it must write of that.
 
-use second::{chain, compare, convolution, limits, marker, randomiser, reed_solomon, report, symbols};
+use second::{chain, compare, convolution, limits, marker, portion_cases, randomiser, reed_solomon, report, symbols};
 
 fn main() {
     let argument = |n: usize| std::env::args().nth(n).unwrap_or_default();
@@ -14,6 +14,7 @@ fn main() {
             convolution::write_all();
             limits::write_all();
             reed_solomon::write_all();
+            portion_cases::write_all();
             chain::write_all();
         }
         "compare" => compare::write_all(),
