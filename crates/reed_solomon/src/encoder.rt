@@ -14,13 +14,7 @@ use refusals::Verdict;
 
 // The symbols enter in turn from word `first` on, whole frame or portion: a counter that starts anew spares a division for each symbol.
 // The table comes by value: of a local the compiler knows that no lent row is a part of it, and keeps it in registers.
-fn enter_by(
-    table: [u8; 256],
-    rows: &mut [[u8; 32]; 8],
-    first: usize,
-    symbols: &[u8],
-    depth: usize,
-)
+fn enter_by(table: [u8; 256], rows: &mut [[u8; 32]; 8], first: usize, symbols: &[u8], depth: usize)
     requires { ⌜ (first < depth) × (depth ≤ 8) × (length (now rows) ≡ 8) ⌝ }
     ensures { λ _. ⌜ RowsBy table depth first (now (rows .entry)) (now (symbols .entry)) (now (rows .exit)) ⌝ }
 {
@@ -36,13 +30,7 @@ fn enter_by(
     }
 }
 
-pub(crate) fn enter(
-    e: u32,
-    rows: &mut [[u8; 32]; 8],
-    first: usize,
-    symbols: &[u8],
-    depth: usize,
-)
+pub(crate) fn enter(e: u32, rows: &mut [[u8; 32]; 8], first: usize, symbols: &[u8], depth: usize)
     requires { ⌜ OneOf strengths e × (first < depth) × (depth ≤ 8) × (length (now rows) ≡ 8) ⌝ }
     ensures { λ _. ⌜ RowsOn e depth first (now (rows .entry)) (now (symbols .entry)) (now (rows .exit)) ⌝ }
 {

@@ -1,4 +1,4 @@
-//! The second program's parts, for its own `main` and for other programs' tests: document 01 once more, in plain Rust and by other
+//! The second program's parts, for its own `main` and for other programs' tests: documents 01 and 02 once more, in plain Rust and by other
 //! methods than the proved code. Each call takes what the proved call takes and gives back what that must leave behind.
 
 pub mod blocks;

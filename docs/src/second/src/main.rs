@@ -1,4 +1,4 @@
-//! The second program: document 01 once more, in plain Rust and by other methods than the proved code.
+//! The second program: documents 01 and 02 once more, in plain Rust and by other methods than the proved code.
 //! `second NAME` writes what the program NAME must write; `second report-input NAME` and `second report-output NAME` write what a
 //! report program reads and what it must write of that.
 

@@ -1,5 +1,5 @@
 -- `enter` hands the table of its strength on: each table is that of the generator, by one computed test.
-use mathlib.Core.Path.{_≡_, refl, sym, subst}
+use mathlib.Core.Path.{refl, sym, subst}
 use Prim.Native.Nat.{ℕ}
 use Rattle.field.specs.Field.{_⊕_, _·_, whereSet, timesAlpha, shiftAndAdd, pow}
 use Rattle.field.specs.Line.{toLine, toConventional}
