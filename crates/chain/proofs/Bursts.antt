@@ -19,8 +19,8 @@ use Rattle.randomiser.proofs.Theorems.{added-changed, added-alike}
 use Rattle.reed_solomon.specs.Blocks.{wordOf, sum}
 use Rattle.reed_solomon.specs.Bursts.{burstSymbols, burstBits, SymbolBurst, BitBurst, Corrected}
 use Rattle.reed_solomon.proofs.Interleaving.{words-alike}
-use Rattle.reed_solomon.proofs.CodedBlocks.{EncodeLegal, outcome-legal}
-use Rattle.reed_solomon.proofs.Bursts.{word-differs, bits-in-symbols, coded-octets, corrected}
+use Rattle.reed_solomon.proofs.CodedBlocks.{EncodeLegal, outcome-legal, coded-octets}
+use Rattle.reed_solomon.proofs.Bursts.{word-differs, bits-in-symbols, corrected}
 use Rattle.chain.specs.declared.Received.{Received}
 use Rattle.chain.specs.declared.Received.the-variants.{Delivered}
 use Rattle.chain.specs.Outcome.{randomisedIf, opened, Transmitted, TransmitOutcome, ReceiveOutcome}

@@ -1,6 +1,6 @@
 -- The state of a frame in portions, between what C lends and the calls beneath.
 use mathlib.Core.Path.{_≡_, sym, ap, _∙_, subst}
-use mathlib.Core.Bool.{Bool, true, false}
+use mathlib.Core.Bool.{Bool}
 use mathlib.Core.List.{List, [], _∷_}
 use Prim.Native.Nat.{ℕ}
 use Rattle.refusals.specs.Numbers.{parameterNumber, verdictNumber}
@@ -11,7 +11,7 @@ use Rattle.refusals.proofs.Verdicts.{parameter-nonzero}
 use Rattle.reed_solomon.specs.declared.Row.{Row}
 use Rattle.reed_solomon.specs.declared.Progress.{Progress}
 use Rattle.reed_solomon.specs.Portions.{octetRows, heldRows, PortionOutcome, CloseOutcome}
-use Rattle.ironsimmer.specs.Exported.{truth, stateOf, stateNumbers, StatePut, PortionCall, CloseCall}
+use Rattle.ironsimmer.specs.Exported.{truth, stateOf, stateNumbers, StatePut, PortioningCall, PortionCall, CloseCall}
 use Rattle.ironsimmer.proofs.Answers.{known-answer, lent-refused, lent-accepted}
 
 pub state-is : (numbers : List ℕ) (rows : List (List ℕ)) (held : List Row) → held ≡ heldRows rows
@@ -20,11 +20,8 @@ state-is numbers rows held packed =
     ap (λ (list : List Row). record { place = stateOf numbers rows .place; closed = stateOf numbers rows .closed; rows = list }) packed
 
 -- a flag as a number
-pub told-closed : (closed : Bool) (n : ℕ) → closed ≡ true → n ≡ 1 → n ≡ truth closed
-told-closed closed n e one = one ∙ ap truth (sym e)
-
-pub told-open : (closed : Bool) (n : ℕ) → closed ≡ false → n ≡ 0 → n ≡ truth closed
-told-open closed n e zero = zero ∙ ap truth (sym e)
+pub told : (flag closed : Bool) (n : ℕ) → closed ≡ flag → n ≡ truth flag → n ≡ truth closed
+told flag closed n e p = p ∙ ap truth (sym e)
 
 module _ (verdict : Verdict) (next : Progress) (numbers : List ℕ) (rows : List (List ℕ)) where
   pub put-refused : (p : Parameter) (answer : ℕ) → verdict ≡ Refused p → answer ≡ parameterNumber p → StatePut verdict next numbers rows answer numbers rows
@@ -47,24 +44,16 @@ module _ (verdict : Verdict) (next : Progress) (numbers : List ℕ) (rows : List
 
 -- ---- the calls, over a state that is the one lent
 
-module _ (e i q : ℕ) (numbers : List ℕ) (rows : List (List ℕ)) (state : Progress) (lent : state ≡ stateOf numbers rows) (verdict : Verdict) (next : Progress)
-    (answer : ℕ) (numbers′ : List ℕ) (rows′ : List (List ℕ)) (before after : List ℕ) where
-  pub portion-called : (portion : List ℕ) → PortionOutcome e i q state portion before verdict next after → StatePut verdict next numbers rows answer numbers′ rows′
-      → PortionCall e i q numbers rows portion before answer numbers′ rows′ after
-  portion-called portion outcome put =
-      record {
-        verdict = verdict;
-        next = next;
-        outcome = subst (λ (s : Progress). PortionOutcome e i q s portion before verdict next after) lent outcome;
-        put = put;
-      }
+module _ (numbers : List ℕ) (rows : List (List ℕ)) (state : Progress) (lent : state ≡ stateOf numbers rows) (verdict : Verdict) (next : Progress)
+    (answer : ℕ) (numbers′ : List ℕ) (rows′ : List (List ℕ)) (after : List ℕ) (put : StatePut verdict next numbers rows answer numbers′ rows′) where
+  called : (Permits : Progress → Verdict → Progress → List ℕ → Type 0) → Permits state verdict next after
+      → PortioningCall (Permits (stateOf numbers rows)) numbers rows answer numbers′ rows′ after
+  called Permits outcome =
+      record { verdict = verdict; next = next; outcome = subst (λ (s : Progress). Permits s verdict next after) lent outcome; put = put }
 
-  pub close-called : CloseOutcome e i q state before verdict next after → StatePut verdict next numbers rows answer numbers′ rows′
-      → CloseCall e i q numbers rows before answer numbers′ rows′ after
-  close-called outcome put =
-      record {
-        verdict = verdict;
-        next = next;
-        outcome = subst (λ (s : Progress). CloseOutcome e i q s before verdict next after) lent outcome;
-        put = put;
-      }
+  pub portion-called : (e i q : ℕ) (portion before : List ℕ) → PortionOutcome e i q state portion before verdict next after
+      → PortionCall e i q numbers rows portion before answer numbers′ rows′ after
+  portion-called e i q portion before = called (λ (s : Progress). PortionOutcome e i q s portion before)
+
+  pub close-called : (e i q : ℕ) (before : List ℕ) → CloseOutcome e i q state before verdict next after → CloseCall e i q numbers rows before answer numbers′ rows′ after
+  close-called e i q before = called (λ (s : Progress). CloseOutcome e i q s before)

@@ -3,10 +3,9 @@ use mathlib.Core.Path.{_≡_, refl, sym, _∙_, subst}
 use mathlib.Core.Logic.{inl, inr}
 use mathlib.Core.List.{List, [], _∷_, map}
 use Prim.Native.Nat.{ℕ, suc, _+_, _-_, _*_, _/_, _%_, _^_, _≤_, _<_}
-use native.Mathlib.Nat.{mod-lt, div-add-mod', div-mul-le-self, lt-div-mul-add, mul-le-mul, mul-le-mul-right}
+use native.Mathlib.Nat.{div-mul-le-self, lt-div-mul-add, mul-le-mul, mul-le-mul-right}
 use native.Mathlib.Omega.{arith}
-use native.Mathlib.Decide.{decLt}
-use lib.ListN.{length, getD, replicate, List·getD-eq-default}
+use lib.ListN.{length, getD, replicate}
 use Rattle.octets.proofs.Bits.{bit-of-octet, same-bits}
 use Rattle.refusals.specs.Sizes.{depths}
 use Rattle.refusals.specs.Numbers.{verdictNumber}
@@ -14,14 +13,13 @@ use Rattle.refusals.specs.declared.Verdict.{Verdict}
 use Rattle.codewords.specs.Words.{Octets, differing}
 use Rattle.codewords.proofs.LineWords.{differing-front, differing-run}
 use Rattle.codewords.proofs.WordValues.{octet-at}
-use Rattle.words.proofs.Arrays.{octets-of}
 use Rattle.reed_solomon.specs.declared.Decoded.{Decoded}
 use Rattle.reed_solomon.specs.declared.Decoded.the-variants.{Delivered}
 use Rattle.reed_solomon.specs.Blocks.{sentFrom, wordOf, sum}
-use Rattle.reed_solomon.specs.Outcome.{Coded, EncodeOutcome, DecodeOutcome}
+use Rattle.reed_solomon.specs.Outcome.{EncodeOutcome, DecodeOutcome}
 use Rattle.reed_solomon.specs.Bursts.{burstSymbols, burstBits, Outside, SymbolBurst, BitBurst, Corrected}
-use Rattle.reed_solomon.proofs.Interleaving.{symbol-below, sent-length, sent-symbol, word-at}
-use Rattle.reed_solomon.proofs.CodedBlocks.{EncodeLegal, outcome-legal}
+use Rattle.reed_solomon.proofs.Interleaving.{sent-length, sent-symbol}
+use Rattle.reed_solomon.proofs.CodedBlocks.{EncodeLegal, outcome-legal, coded-octets}
 use Rattle.reed_solomon.proofs.Conditions.{condition-two}
 
 -- ---- a run of e i symbols holds at most e symbols of each word
@@ -71,20 +69,6 @@ bits-in-symbols p n m some short sent received o B =
     place : (k b : ℕ) → b < 8 → Outside (p / 8) m k → Outside p n (k * 8 + b)
     place k b h (inl l) = inl (omega arith)
     place k b h (inr l) = inr (omega arith)
-
--- ---- a coded block is a list of octets
-
-module _ (e i q : ℕ) (frame block : List ℕ) (legal : EncodeLegal e i q (length frame) (length block)) (C : Coded e i q frame block) where
-  pub coded-octets : Octets block
-  coded-octets = octets-of block (λ m. elim (decLt m (length block)) [ yes h ↦ within m h | no l ↦ omega (arith, List·getD-eq-default block 0 {n = m} (omega arith)) ])
-    where
-      within : (m : ℕ) → m < length block → getD block m 0 < 256
-      within m h =
-          let back : m / i * i + m % i ≡ m = div-add-mod' m i in
-          let symbol : m / i < 255 - q = symbol-below i (m / i) (255 - q) (m % i) (omega (arith, legal .output)) in
-          subst (λ (n : ℕ). getD block n 0 < 256) back
-          (subst (λ (x : ℕ). x < 256) (word-at i q block (m % i) (m / i) symbol)
-          (octet-at (wordOf i q block (m % i)) (C .words (m % i) (mod-lt m (legal .words .some)) .octets) (q + m / i)))
 
 -- ---- the figure
 

@@ -1,10 +1,11 @@
 -- A block that holds the frame and then the rows of checks, interleaved, is coded; so encode keeps what it promises.
 use mathlib.Core.Path.{_≡_, sym, ap, ap₂, _∙_, subst}
 use mathlib.Core.List.{List, [], _++_}
-use Prim.Native.Nat.{ℕ, _+_, _-_, _*_, _≤_, _<_}
-use native.Mathlib.Nat.{mul-le-mul-right, mod-eq-of-lt}
+use Prim.Native.Nat.{ℕ, _+_, _-_, _*_, _/_, _%_, _≤_, _<_}
+use native.Mathlib.Nat.{mul-le-mul-right, mod-eq-of-lt, mod-lt, div-add-mod'}
 use native.Mathlib.Omega.{arith}
-use lib.ListN.{length, take, getD}
+use native.Mathlib.Decide.{decLt}
+use lib.ListN.{length, take, getD, List·getD-eq-default}
 use lib.Seq.{getD-take}
 use mir.Syntax.{w8}
 use mir.Val.{Fits}
@@ -20,12 +21,14 @@ use Rattle.refusals.specs.declared.Verdict.the-variants.{Accepted, Refused}
 use Rattle.refusals.proofs.Orders.{Numbered, Clear, accepted-clear, not-different}
 use Rattle.refusals.proofs.Legal.{LegalWords, legal-words}
 use Rattle.refusals.proofs.Verdicts.{parameter-nonzero, same-verdict}
-use Rattle.codewords.specs.Words.{Codeword, withFill}
+use Rattle.codewords.specs.Words.{Octets, Codeword, withFill}
+use Rattle.codewords.proofs.WordValues.{octet-at}
+use Rattle.words.proofs.Arrays.{octets-of}
 use Rattle.reed_solomon.specs.Blocks.{sentFrom, wordOf}
 use Rattle.reed_solomon.specs.Outcome.{Coded, EncodeOutcome}
 use Rattle.reed_solomon.specs.Rows.{inRow, rowsEntered, noRows}
 use Rattle.reed_solomon.specs.EncoderWorking.{rowAfter, RowsOn, ChecksPut}
-use Rattle.reed_solomon.proofs.Interleaving.{sent-is, sent-++, sent-information, place-below}
+use Rattle.reed_solomon.proofs.Interleaving.{sent-is, sent-++, sent-information, place-below, symbol-below, word-at}
 use Rattle.reed_solomon.proofs.CheckRows.{row-front-size, row-codeword}
 use Rattle.reed_solomon.proofs.RowTurns.{frame-rows}
 
@@ -167,3 +170,25 @@ pub outcome-legal : (e i q : ℕ) (frame before block : List ℕ) (v : Verdict) 
 outcome-legal e i q frame before block v O accepted =
     subst (EncodeLegal e i q (length frame)) (sym (O .size))
     (encode-legal e i q (length frame) (length before) (subst (FirstOf (encodeOrder e i q (length frame) (length before))) accepted (O .number)))
+
+-- ---- a coded block is a list of octets
+
+module _ (e i q : ℕ) (frame block : List ℕ) (legal : EncodeLegal e i q (length frame) (length block)) (C : Coded e i q frame block) where
+  pub coded-octets : Octets block
+  coded-octets = octets-of block (λ m. elim (decLt m (length block)) [ yes h ↦ within m h | no l ↦ omega (arith, List·getD-eq-default block 0 {n = m} (omega arith)) ])
+    where
+      within : (m : ℕ) → m < length block → getD block m 0 < 256
+      within m h =
+          let back : m / i * i + m % i ≡ m = div-add-mod' m i in
+          let symbol : m / i < 255 - q = symbol-below i (m / i) (255 - q) (m % i) (omega (arith, legal .output)) in
+          subst (λ (n : ℕ). getD block n 0 < 256) back
+          (subst (λ (x : ℕ). x < 256) (word-at i q block (m % i) (m / i) symbol)
+          (octet-at (wordOf i q block (m % i)) (C .words (m % i) (mod-lt m (legal .words .some)) .octets) (q + m / i)))
+
+  -- and so is its frame
+  pub frame-octets : (m : ℕ) → getD frame m 0 < 256
+  frame-octets m =
+      elim (decLt m (length frame)) [
+        | yes h ↦ subst (λ (x : ℕ). x < 256) (sym (getD-take (length frame) block m 0 h) ∙ ap (λ (l : List ℕ). getD l m 0) (C .information)) (octet-at block coded-octets m)
+        | no l ↦ omega (arith, List·getD-eq-default frame 0 {n = m} (omega arith))
+      ]

@@ -26,10 +26,10 @@ use Rattle.reed_solomon.specs.Blocks.{sentFrom, wordOf}
 use Rattle.reed_solomon.specs.Outcome.{Coded, EncodeOutcome, Delivery, DecodeOutcome, decodedNumber}
 use Rattle.reed_solomon.specs.Bursts.{burstSymbols, burstBits, SymbolBurst, BitBurst}
 use Rattle.reed_solomon.proofs.Interleaving.{place-below, sent-length, sent-symbol, sent-is}
-use Rattle.reed_solomon.proofs.CodedBlocks.{EncodeLegal, outcome-legal}
+use Rattle.reed_solomon.proofs.CodedBlocks.{EncodeLegal, outcome-legal, coded-octets}
 use Rattle.reed_solomon.proofs.Settled.{word-information}
 use Rattle.reed_solomon.proofs.ZeroBlocks.{zeroFrame, zeroBlock, zeros-encoded}
-use Rattle.reed_solomon.proofs.Bursts.{bits-in-symbols, coded-octets}
+use Rattle.reed_solomon.proofs.Bursts.{bits-in-symbols}
 use Rattle.reed_solomon.proofs.AlteredBlocks.{altered, flip, flip-octet, flip-some, flips, only-octet, flips-symbol, flips-bit}
 
 -- ---- a coded block so altered

@@ -27,9 +27,9 @@ use Rattle.reed_solomon.specs.EncoderWorking.{RowsOn, ChecksPut}
 use Rattle.reed_solomon.specs.Portions.{octetRows, heldRows, taken, closing, PortionOutcome, Checks, CloseOutcome}
 use Rattle.reed_solomon.proofs.Interleaving.{place-below}
 
-not-true : (flag : Bool) → (flag ≡ true → ⊥) → flag ≡ false
-not-true true n = absurd (n refl)
-not-true false n = refl
+not-set : (flag : Bool) → (flag ≡ true → ⊥) → flag ≡ false
+not-set true n = absurd (n refl)
+not-set false n = refl
 
 -- ---- a portion
 
@@ -47,7 +47,7 @@ portion-legal e i q portion written place closed first =
       words = legal-words e i q (clear .0, (clear .1 .0, (clear .1 .1 .0, tt)));
       small = omega (arith, clear .1 .1 .1 .0);
       output = not-different written portion (clear .1 .1 .1 .1 .0);
-      unclosed = not-true closed (λ t. clear .1 .1 .1 .1 .1 .0 (inl t));
+      unclosed = not-set closed (λ t. clear .1 .1 .1 .1 .1 .0 (inl t));
       within = let fits : frameLength e i q < place + portion → ⊥ = λ h. clear .1 .1 .1 .1 .1 .0 (inr h) in omega arith;
     }
   where
@@ -110,7 +110,7 @@ close-legal e i q checks place closed first =
     record {
       words = legal-words e i q (clear .0, (clear .1 .0, (clear .1 .1 .0, tt)));
       output = not-different checks (checksLength e i) (clear .1 .1 .1 .0);
-      unclosed = not-true closed (λ t. clear .1 .1 .1 .1 .0 (inl t));
+      unclosed = not-set closed (λ t. clear .1 .1 .1 .1 .0 (inl t));
       whole = not-different place (frameLength e i q) (λ h. clear .1 .1 .1 .1 .0 (inr h));
     }
   where

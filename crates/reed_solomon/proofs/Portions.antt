@@ -3,14 +3,14 @@ use mathlib.Core.Path.{_≡_, refl, sym, ap, ap₂, _∙_, subst}
 use mathlib.Core.Bool.{Bool, true, false}
 use mathlib.Core.Logic.{_≢_, inl, inr}
 use mathlib.Core.List.{List, [], _∷_, _++_}
-use Prim.Native.Nat.{ℕ, zero, suc, _+_, _-_, _*_, _/_, _%_, _≤_, _<_}
-use native.Mathlib.Nat.{add-zero, zero-add, add-assoc, mod-lt, div-add-mod'}
+use Prim.Native.Nat.{ℕ, _+_, _*_, _/_, _%_, _≤_, _<_}
+use native.Mathlib.Nat.{add-zero, add-assoc, mod-lt, div-add-mod'}
 use native.Mathlib.Decide.{ℕ-discrete}
 use native.Mathlib.Omega.{arith}
 use lib.ListN.{length, getD, length-append}
-use lib.Seq.{take-append-seam, getD-take, getD-append-add, ext-getD}
+use lib.Seq.{take-append-seam, getD-append-add, ext-getD}
 use Rattle.refusals.specs.Order.{Check, FirstOf}
-use Rattle.refusals.specs.Sizes.{information, frameLength, blockLength, checksLength}
+use Rattle.refusals.specs.Sizes.{frameLength, blockLength, checksLength}
 use Rattle.refusals.specs.Calls.{strength, depth, fill, inputOver, output, encodeOrder, portionOrder, closeOrder}
 use Rattle.refusals.specs.Working.{wordParameters}
 use Rattle.refusals.specs.Numbers.{verdictNumber}
@@ -20,16 +20,14 @@ use Rattle.refusals.proofs.Orders.{Clear, clear-accepted}
 use Rattle.refusals.proofs.Legal.{LegalWords}
 use Rattle.refusals.proofs.Verdicts.{still-open, passed}
 use Rattle.refusals.proofs.Settled.{verdict-known, verdict-settled, encode-parameters-settled, close-parameters-settled}
-use Rattle.codewords.specs.Words.{Octets, withFill}
 use Rattle.reed_solomon.specs.declared.Row.{Row}
 use Rattle.reed_solomon.specs.declared.Progress.{Progress}
-use Rattle.reed_solomon.specs.Blocks.{sentFrom}
 use Rattle.reed_solomon.specs.Outcome.{Coded, EncodeOutcome}
 use Rattle.reed_solomon.specs.Rows.{inRow, rowsEntered, noRows}
 use Rattle.reed_solomon.specs.Portions.{octetRows, heldRows, noneTaken, taken, closing, PortionOutcome, Checks, CloseOutcome, Given, none, more, joined}
-use Rattle.reed_solomon.proofs.Interleaving.{symbol-below, sent-at}
+use Rattle.reed_solomon.proofs.Interleaving.{symbol-below}
 use Rattle.reed_solomon.proofs.RowTurns.{entered-++}
-use Rattle.reed_solomon.proofs.CodedBlocks.{checks-fit, block-coded}
+use Rattle.reed_solomon.proofs.CodedBlocks.{checks-fit, block-coded, outcome-legal, frame-octets}
 use Rattle.reed_solomon.proofs.Settled.{encode-settled}
 use Rattle.reed_solomon.proofs.PortionSteps.{PortionLegal, portion-legal, CloseLegal, close-legal}
 
@@ -165,38 +163,6 @@ close-within e i q state before answer next after K =
       | no n ↦ ap (λ (r : Progress). r .place) (K .refused n .0)
     ]
 
--- ---- the octets of a frame are octets, since those of its codewords are
-
-octets-at : (l : List ℕ) (n : ℕ) → Octets l → getD l n 0 < 256
-octets-at [] n o = omega arith
-octets-at (x ∷ l) zero o = o .0
-octets-at (x ∷ l) (suc n) o = octets-at l n (o .1)
-
-octets-all : (l : List ℕ) → ((n : ℕ) → n < length l → getD l n 0 < 256) → (n : ℕ) → getD l n 0 < 256
-octets-all [] f n = omega arith
-octets-all (x ∷ l) f zero = f 0 (omega arith)
-octets-all (x ∷ l) f (suc n) = octets-all l (λ m h. f (suc m) (omega arith)) n
-
-octets-sent : (q : ℕ) (l : List ℕ) → Octets (withFill q l) → Octets l
-octets-sent zero l o = o
-octets-sent (suc q) l o = octets-sent q l (o .1)
-
-frame-octets : (e i q : ℕ) (frame block : List ℕ) → LegalWords e i q → length frame ≡ frameLength e i q → Coded e i q frame block → (m : ℕ) → getD frame m 0 < 256
-frame-octets e i q frame block words whole C =
-    octets-all frame
-    (λ n h. subst (λ (x : ℕ). x < 256) (sym (same n h))
-    (octets-at (sentFrom i block (n % i) 0 (255 - q)) (n / i)
-    (octets-sent q (sentFrom i block (n % i) 0 (255 - q)) (C .words (n % i) (mod-lt n (omega (arith, words .some))) .octets))))
-  where
-    below : (n : ℕ) → n < length frame → n / i < 255 - q
-    below n h =
-        omega (arith, symbol-below i (n / i) (information e - q) (n % i) (subst (λ (m : ℕ). m < (information e - q) * i) (sym (div-add-mod' n i)) (omega arith)))
-
-    same : (n : ℕ) → n < length frame → getD frame n 0 ≡ getD (sentFrom i block (n % i) 0 (255 - q)) (n / i) 0
-    same n h =
-        ap (λ (l : List ℕ). getD l n 0) (sym (C .information)) ∙ getD-take (length frame) block n 0 h ∙ ap (λ (m : ℕ). getD block m 0) (sym (div-add-mod' n i))
-        ∙ ap (λ (k : ℕ). getD block (k * i + n % i) 0) (sym (zero-add (n / i))) ∙ sym (sent-at i block (n % i) 0 (255 - q) (n / i) (below n h))
-
 -- ---- however the frame is cut
 
 module _ (e i q : ℕ) (portions : List (List ℕ)) (written : List ℕ) (end : Progress) (G : Given e i q noneTaken portions written end)
@@ -234,7 +200,7 @@ module _ (e i q : ℕ) (portions : List (List ℕ)) (written : List ℕ) (end : 
     coded =
         block-coded e i q frame (frame ++ checks) (legal .words) whole (take-append-seam frame checks)
         (λ j w l h. getD-append-add frame checks (j * i + w) 0 ∙ K .accepted refl .1 .octet j w l h ∙ ap (λ (list : List (List ℕ)). getD (getD list w []) j 0) rows-are)
-        (frame-octets e i q frame block (legal .words) whole (E .accepted (ap verdictNumber accepted)))
+        (frame-octets e i q frame block (outcome-legal e i q frame before block answer E (ap verdictNumber accepted)) (E .accepted (ap verdictNumber accepted)))
 
     permitted : EncodeOutcome e i q frame before Accepted (frame ++ checks)
     permitted =

@@ -17,7 +17,7 @@ same-length : tie.Need-same-length
 same-length c = search needs
 
 returns : tie.Need-returns
-returns c = close-called _ _ _ _ _ _ (c .before .before .before .before .before .before .before .state-of .ensures) _ _ _ _ _ _ _ (c .before .before .before .before .before .close .ensures) (c .put .ensures)
+returns c = close-called _ _ _ (c .before .before .before .before .before .before .before .state-of .ensures) _ _ _ _ _ _ (c .put .ensures) _ _ _ _ (c .before .before .before .before .before .close .ensures)
 
 pub ironsimmer-encode-close-spec : {M : Type 1} → statement M
 ironsimmer-encode-close-spec =

@@ -17,7 +17,7 @@ same-length : tie.Need-same-length
 same-length c = search needs
 
 returns : tie.Need-returns
-returns c = portion-called _ _ _ _ _ _ (c .before .before .before .before .before .before .before .state-of .ensures) _ _ _ _ _ _ _ _ (c .before .before .before .before .before .portion .ensures) (c .put .ensures)
+returns c = portion-called _ _ _ (c .before .before .before .before .before .before .before .state-of .ensures) _ _ _ _ _ _ (c .put .ensures) _ _ _ _ _ (c .before .before .before .before .before .portion .ensures)
 
 pub ironsimmer-encode-portion-spec : {M : Type 1} → statement M
 ironsimmer-encode-portion-spec =

@@ -1,6 +1,7 @@
 -- `put` leaves what is lent at a refusal; else the state is put in place whole.
+use mathlib.Core.Bool.{true, false}
 use mathlib.Core.Logic.{⊎-elim}
-use Rattle.ironsimmer.proofs.States.{told-closed, told-open, put-refused, put-accepted}
+use Rattle.ironsimmer.proofs.States.{told, put-refused, put-accepted}
 use borrow.Author.Needs.{needs}
 use Rattle.ironsimmer.proofs.portions.put.Statement.{statement}
 use Rattle.ironsimmer.proofs.portions.put.Tie as tie
@@ -23,7 +24,7 @@ octet-rows-requires c κs = search needs
 returns-2 : tie.Need-returns-2
 returns-2 c =
     put-accepted _ _ _ _ _ _ (search)
-    (⊎-elim (λ w. told-closed _ _ (w .0 .taken) (w .1)) (λ w. told-open _ _ (w .0 .left) (w .1)) (c .before .if1 .came))
+    (⊎-elim (λ w. told true _ _ (w .0 .taken) (w .1)) (λ w. told false _ _ (w .0 .left) (w .1)) (c .before .if1 .came))
     (c .before .before .octet-rows .ensures)
 
 pub put-spec : {M : Type 1} → statement M
