@@ -1,4 +1,4 @@
--- How many symbols a call sends: one for each bit, and one more at the first place of each period. Shown of any pattern that does so, and
+-- How many symbols a call sends: one for each bit, and one more at each first place of a period. Shown of any pattern that does so, and
 -- that each rate's pattern does so by a computed test.
 use mathlib.Core.Path.{_≡_, refl, sym, ap, ap₂, _∙_, subst}
 use mathlib.Core.Logic.{⊎-elim}
@@ -12,6 +12,7 @@ use lib.ListN.{length, length-append}
 use Rattle.refusals.specs.Order.{OneOf}
 use Rattle.refusals.specs.Sizes.{period, rates, symbolCount}
 use Rattle.convolution.specs.Coder.{bitsOf, c1Patterns, c2Patterns, patternAt, sent, symbolsAt, symbolsFrom, nextRegister, nextPlace}
+use Rattle.convolution.specs.Working.{ahead}
 use Rattle.convolution.proofs.Bits.{bits-length}
 use Rattle.field.proofs.Below.{agree, equal-below}
 
@@ -28,12 +29,8 @@ abbrev pub extra : ℕ → ℕ
 extra zero = 1
 extra (suc place) = 0
 
--- The bits before the next such place.
-abbrev ahead : ℕ → ℕ → ℕ
-ahead p zero = 0
-ahead p (suc place) = p - suc place
-
-ahead-next : (p place : ℕ) → place < p → ahead p ((place + 1) % p) + suc place ≡ p
+-- How far the next such place is, from a place and from the one after it.
+pub ahead-next : (p place : ℕ) → place < p → ahead p ((place + 1) % p) + suc place ≡ p
 ahead-next p place h =
     ⊎-elim
     (λ e. subst (λ (n : ℕ). ahead n ((place + 1) % n) + suc place ≡ n) e (rw (add-one, mod-self) (omega arith)))
@@ -51,6 +48,21 @@ record Counted (p place m n : ℕ) : Type 0 where
   all : n ≡ m + e
   enough : m ≤ e * p + ahead p place
   tight : e * p + ahead p place < m + p
+
+quotient : (p e n : ℕ) → e * p ≤ n → n < e * p + p → n / p ≡ e
+quotient p e n low high = div-eq-of-lt-le p low (subst (λ (m : ℕ). n < m) (sym (rw (add-one, suc-mul))) high)
+
+-- So the periods that begin are counted by the places at the end and at the start, each divided by the period and rounded up.
+begun : (p place m e : ℕ) → place < p → m ≤ e * p + ahead p place → e * p + ahead p place < m + p → (place + m + (p - 1)) / p - (place + (p - 1)) / p ≡ e
+begun p zero m e h low high =
+    let a : (zero + m + (p - 1)) / p ≡ e = quotient p e (zero + m + (p - 1)) (omega arith) (omega arith) in
+    let b : (zero + (p - 1)) / p ≡ 0 = quotient p 0 (zero + (p - 1)) (omega arith) (omega arith) in
+    omega arith
+begun p (suc q) m e h low high =
+    let up : (e + 1) * p ≡ e * p + p = rw (add-one, suc-mul) in
+    let a : (suc q + m + (p - 1)) / p ≡ e + 1 = quotient p (e + 1) (suc q + m + (p - 1)) (omega arith) (omega arith) in
+    let b : (suc q + (p - 1)) / p ≡ 1 = quotient p 1 (suc q + (p - 1)) (omega arith) (omega arith) in
+    omega arith
 
 more : (p place m n : ℕ) → place < p → Counted p ((place + 1) % p) m n → Counted p place (suc m) (suc (extra place) + n)
 more p zero m n h c =
@@ -76,14 +88,10 @@ module _ (rate : ℕ) (regular : Regular rate) where
       length-append (symbolsAt rate register place bit) _ ∙ ap (λ (k : ℕ). k + length (symbolsFrom rate (nextRegister register bit) (nextPlace rate place) bits)) (regular .sends register place bit h) in
       rw n (more (period rate) place (length bits) _ h rest)
 
-  pub regular-count : (octets : List ℕ) → length (symbolsFrom rate 0 0 (bitsOf octets)) ≡ symbolCount rate (length octets)
-  regular-count octets =
-      let c = counted 0 0 (bitsOf octets) (regular .some) in
-      let m : length (bitsOf octets) ≡ 8 * length octets = bits-length octets in
-      let up : (c .e + 1) * period rate ≡ c .e * period rate + period rate = rw (add-one, suc-mul) in
-      let e : (8 * length octets + (period rate - 1)) / period rate ≡ c .e =
-      div-eq-of-lt-le (period rate) (omega (arith, regular .some)) (omega (arith, regular .some)) in
-      c .all ∙ ap₂ _+_ m (sym e)
+  pub regular-count : (register place : ℕ) (octets : List ℕ) → place < period rate → length (symbolsFrom rate register place (bitsOf octets)) ≡ symbolCount rate place (length octets)
+  regular-count register place octets h =
+      let c = counted register place (bitsOf octets) h in
+      c .all ∙ ap₂ _+_ (bits-length octets) (sym (begun (period rate) place (8 * length octets) (c .e) h (omega (arith, c .enough, bits-length octets)) (omega (arith, c .tight, bits-length octets))))
 
 -- How many symbols are sent does not depend on which.
 abbrev sentAt : ℕ → ℕ → ℕ
@@ -94,6 +102,20 @@ any-symbols zero zero x y = refl
 any-symbols zero (suc b) x y = refl
 any-symbols (suc a) zero x y = refl
 any-symbols (suc a) (suc b) x y = refl
+
+-- As the patterns say it, whichever symbols.
+pub record Patterned (rate : ℕ) : Type 0 where
+  pub sends : (place x y : ℕ) → place < period rate → length (sent (patternAt c1Patterns rate place) x ++ sent (patternAt c2Patterns rate place) y) ≡ suc (extra place)
+
+pub patterned : (rate : ℕ) → Regular rate → Patterned rate
+unfolding symbolsAt
+patterned rate r =
+    record {
+      sends = λ place x y h.
+          any-symbols (patternAt c1Patterns rate place) (patternAt c2Patterns rate place) x y
+          ∙ sym (any-symbols (patternAt c1Patterns rate place) (patternAt c2Patterns rate place) _ _)
+          ∙ r .sends 0 place 0 h;
+    }
 
 tested : (rate : ℕ) → 0 < period rate → T (agree (sentAt rate) (λ place. suc (extra place)) (period rate)) → Regular rate
 unfolding symbolsAt
@@ -110,5 +132,11 @@ pub regular : (rate : ℕ) → OneOf rates rate → Regular rate
 regular =
     each-rate Regular (tested 1 (omega arith) tt) (tested 2 (omega arith) tt) (tested 3 (omega arith) tt) (tested 4 (omega arith) tt) (tested 5 (omega arith) tt)
 
-pub symbol-count : (rate : ℕ) (octets : List ℕ) → OneOf rates rate → length (symbolsFrom rate 0 0 (bitsOf octets)) ≡ symbolCount rate (length octets)
-symbol-count rate octets legal = regular-count rate (regular rate legal) octets
+pub symbol-count : (rate register place : ℕ) (octets : List ℕ) → OneOf rates rate → place < period rate → length (symbolsFrom rate register place (bitsOf octets)) ≡ symbolCount rate place (length octets)
+symbol-count rate register place octets legal h = regular-count rate (regular rate legal) register place octets h
+
+-- From place 0 on: 8n plus 8n/p rounded up.
+pub symbol-count-anew : (rate : ℕ) (octets : List ℕ) → OneOf rates rate → length (symbolsFrom rate 0 0 (bitsOf octets)) ≡ 8 * length octets + (8 * length octets + (period rate - 1)) / period rate
+symbol-count-anew rate octets legal =
+    symbol-count rate 0 0 octets legal (regular rate legal .some)
+    ∙ each-rate (λ r. symbolCount r 0 (length octets) ≡ 8 * length octets + (8 * length octets + (period r - 1)) / period r) (omega arith) (omega arith) (omega arith) (omega arith) (omega arith) rate legal

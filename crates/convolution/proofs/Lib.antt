@@ -5,6 +5,11 @@ pub mod Settled
 pub mod Bits
 pub mod Packing
 pub mod Stream
-pub mod Closing
+pub mod AtOnce
+pub mod Spreading
+pub mod Puncturing
+pub mod Filling
 pub mod Tables
 pub mod Outcomes
+pub mod Accepting
+pub mod Calls

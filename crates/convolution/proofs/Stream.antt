@@ -1,29 +1,16 @@
 -- Laws of what a state has yet to send: a bit taken in, an octet's bits, whole octets written out.
-use mathlib.Core.Path.{_≡_, refl, sym, ap, ap₂, _∙_}
+use mathlib.Core.Path.{_≡_, refl, sym, ap, ap₂, _∙_, subst}
 use mathlib.Core.List.{List, [], _∷_, _++_, append-assoc, append-nil}
-use Prim.Native.Nat.{ℕ, zero, suc, _+_, _-_, _*_, _/_, _%_, _^_, _≤_, _<_}
+use Prim.Native.Nat.{ℕ, suc, _+_, _-_, _*_, _/_, _%_, _^_, _≤_, _<_}
 use native.Mathlib.Omega.{arith}
 use native.Mathlib.Numerals.{add-one}
 use borrow.Author.Tests.{eq-eqb, ne-eqb}
-use lib.ListN.{length, getD, replicate, take, drop, set, length-append}
+use lib.ListN.{length, getD, take, drop, set, length-append, length-set}
 use lib.Seq.{take-suc-set, drop-cons, length-take-le}
-use Rattle.refusals.specs.Sizes.{period}
-use Rattle.convolution.specs.Coder.{lowBits, bitsOf, g1, g2, connected, inverted, c1Patterns, c2Patterns, patternAt, sent, symbolsAt, symbolsFrom, nextRegister, nextPlace}
-use Rattle.convolution.specs.Working.{stream, Rows, Filled, Ready, Kept}
-use Rattle.convolution.specs.declared.State.{State}
+use Rattle.convolution.specs.Coder.{lowBits, bitsOf, inverted, symbolsFrom}
+use Rattle.convolution.specs.Working.{stream, Alike, Filled, Ready, Kept}
+use Rattle.convolution.specs.declared.Flow.{Flow}
 use Rattle.convolution.proofs.Bits.{low-mod, low-split, low-length, bits-append, bits-length}
-
--- Before the first bit all symbols are yet to send.
-pub stream-starts : (rate : ℕ) (s : State) (bits : List ℕ) → s .register ≡ 0 → s .place ≡ 0 → s .holds ≡ 0 → stream rate s bits ≡ symbolsFrom rate 0 0 bits
-stream-starts rate s bits register place holds = rw (holds, register, place)
-
--- The zeros at the end of a row say what the pattern says there.
-padded : (xs : List ℕ) (n i : ℕ) → getD (xs ++ replicate n 0) i 0 ≡ getD xs i 0
-padded [] zero i = refl
-padded [] (suc n) zero = refl
-padded [] (suc n) (suc i) = padded [] n i
-padded (x ∷ xs) n zero = refl
-padded (x ∷ xs) n (suc i) = padded xs n i
 
 -- The test of the rate decides on the inversion.
 pub at-half : (rate symbol : ℕ) → rate ≡ 1 → inverted rate symbol ≡ 1 - symbol
@@ -31,37 +18,6 @@ at-half rate symbol e = simp (eq-eqb rate 1 e)
 
 pub at-punctured : (rate symbol : ℕ) → (rate ≡ 1 → ⊥) → inverted rate symbol ≡ symbol
 at-punctured rate symbol n = simp (ne-eqb rate 1 n)
-
-module _ (rate p : ℕ) (c1 c2 : List ℕ) (rows : Rows rate p c1 c2) where
-  first-row : (place : ℕ) → getD c1 place 0 ≡ patternAt c1Patterns rate place
-  first-row place = ap (λ (l : List ℕ). getD l place 0) (rows .first) ∙ padded (getD c1Patterns (rate - 1) []) (7 - period rate) place
-
-  second-row : (place : ℕ) → getD c2 place 0 ≡ patternAt c2Patterns rate place
-  second-row place = ap (λ (l : List ℕ). getD l place 0) (rows .second) ∙ padded (getD c2Patterns (rate - 1) []) (7 - period rate) place
-
-  -- What C1 and then C2 join is what the bit sends, and the coder runs on.
-  pub bit-taken : (register place bit x y z next : ℕ) (start middle end rest : List ℕ) →
-      x ≡ connected g1 register bit →
-      middle ≡ start ++ sent (getD c1 place 0) x →
-      y ≡ connected g2 register bit →
-      z ≡ inverted rate y →
-      end ≡ middle ++ sent (getD c2 place 0) z →
-      next ≡ (place + 1) % p →
-      end ++ symbolsFrom rate (nextRegister register bit) next rest ≡ start ++ symbolsFrom rate register place (bit ∷ rest)
-  unfolding symbolsAt
-  bit-taken register place bit x y z next start middle end rest ex em ey ez ee en =
-      let s = symbolsFrom rate (nextRegister register bit) (nextPlace rate place) rest in
-      let e : end ≡ start ++ symbolsAt rate register place bit =
-      ee
-      ∙ ap₂ (λ (l : List ℕ) (n : ℕ). l ++ sent n z) em (second-row place)
-      ∙ ap₂ (λ (n m : ℕ). start ++ sent n m ++ sent (patternAt c2Patterns rate place) z) (first-row place) ex
-      ∙ ap (λ (n : ℕ). start ++ sent (patternAt c1Patterns rate place) (connected g1 register bit) ++ sent (patternAt c2Patterns rate place) n) (ez ∙ ap (inverted rate) ey)
-      ∙ append-assoc start _ _ in
-      ap₂ (λ (l : List ℕ) (q : ℕ). l ++ symbolsFrom rate (nextRegister register bit) q rest) e (en ∙ ap (λ (n : ℕ). (place + 1) % n) (rows .bits))
-      ∙ append-assoc start (symbolsAt rate register place bit) s
-
-pub window-small : {register bit : ℕ} → register < 64 → bit < 2 → register * 2 + bit < 128
-window-small h k = omega arith
 
 -- One octet more is written: its eight symbols are held no longer.
 pub octet-written : (symbols : List ℕ) (at held left more v : ℕ) →
@@ -83,20 +39,48 @@ octet-written symbols at held left more v h el ev =
     ∙ append-assoc (bitsOf (take at symbols)) (lowBits 8 (held / 2 ^ more)) (lowBits more held)
     ∙ ap (λ (l : List ℕ). bitsOf (take at symbols) ++ l) (sym back)
 
+-- So none, one or two of them.
+module _ (before : List ℕ) (at held holds : ℕ) where
+  pub ready-none : holds < 8 → Ready before at held holds before
+  ready-none h =
+      let n : at + holds / 8 ≡ at = omega arith in
+      let m : holds % 8 ≡ holds = omega arith in
+      record { long = refl; same = ap₂ (λ (x y : ℕ). bitsOf (take x before) ++ lowBits y held) n m }
+
+  pub ready-one : (v : ℕ) → 8 ≤ holds → holds < 16 → at < length before → v ≡ held / 2 ^ (holds - 8) % 256 → Ready before at held holds (set before at v)
+  ready-one v low high fits e =
+      let n : at + holds / 8 ≡ at + 1 = omega arith in
+      let m : holds % 8 ≡ holds - 8 = omega arith in
+      record {
+        long = length-set before at v;
+        same = ap₂ (λ (x y : ℕ). bitsOf (take x (set before at v)) ++ lowBits y held) n m ∙ octet-written before at held holds (holds - 8) v fits (omega arith) e;
+      }
+
+  pub ready-two : (v w : ℕ) → 16 ≤ holds → holds < 24 → at + 1 < length before → v ≡ held / 2 ^ (holds - 8) % 256 → w ≡ held / 2 ^ (holds - 16) % 256 → Ready before at held holds (set (set before at v) (at + 1) w)
+  ready-two v w low high fits e f =
+      let n : at + holds / 8 ≡ at + 1 + 1 = omega arith in
+      let m : holds % 8 ≡ holds - 16 = omega arith in
+      let long = length-set before at v in
+      record {
+        long = length-set (set before at v) (at + 1) w ∙ long;
+        same =
+            ap₂ (λ (x y : ℕ). bitsOf (take x (set (set before at v) (at + 1) w)) ++ lowBits y held) n m
+            ∙ octet-written (set before at v) (at + 1) held (holds - 8) (holds - 16) w (omega arith) (omega arith) f
+            ∙ octet-written before at held holds (holds - 8) v (omega arith) (omega arith) e;
+      }
+
 -- The state that took an octet in stands for one octet less to come.
-pub octet-gone : (rate i : ℕ) (octets front whole : List ℕ) (s full : State) →
+pub octet-gone : (rate i : ℕ) (octets : List ℕ) (s full : Flow) →
     i < length octets →
     Filled rate s (getD octets i 0) full →
-    bitsOf front ++ stream rate s (bitsOf (drop i octets)) ≡ whole →
-    bitsOf front ++ stream rate full (bitsOf (drop (i + 1) octets)) ≡ whole
-octet-gone rate i octets front whole s full h filled e =
+    Alike rate full (bitsOf (drop (i + 1) octets)) s (bitsOf (drop i octets))
+octet-gone rate i octets s full h took =
     let next : drop i octets ≡ getD octets i 0 ∷ drop (i + 1) octets =
     drop-cons octets i 0 h ∙ ap (λ (n : ℕ). getD octets i 0 ∷ drop n octets) (sym (add-one i)) in
-    ap (λ (l : List ℕ). bitsOf front ++ l) (filled .same (bitsOf (drop (i + 1) octets)) ∙ ap (λ (l : List ℕ). stream rate s (bitsOf l)) (sym next))
-    ∙ e
+    subst (λ (l : List ℕ). Alike rate full (bitsOf (drop (i + 1) octets)) s (bitsOf l)) (sym next) (took .same (bitsOf (drop (i + 1) octets)))
 
 -- Octets that are written and symbols that stay held are the symbols that were held.
-pub octets-out : (rate written : ℕ) (before after bits whole : List ℕ) (full kept : State) →
+pub octets-out : (rate written : ℕ) (before after bits whole : List ℕ) (full kept : Flow) →
     Ready before written (full .held) (full .holds) after →
     Kept full kept →
     bitsOf (take written before) ++ stream rate full bits ≡ whole →
@@ -120,7 +104,7 @@ lengths front whole rest n held e =
     ∙ ap₂ _+_ (bits-length front) (length-append (lowBits n held) rest ∙ ap (λ (m : ℕ). m + length rest) (low-length n held))
 
 -- There is room for the whole octets that one octet more completes.
-pub room : (rate i written : ℕ) (octets symbols whole : List ℕ) (s full : State) →
+pub room : (rate i written : ℕ) (octets symbols whole : List ℕ) (s full : Flow) →
     i < length octets →
     Filled rate s (getD octets i 0) full →
     written ≤ length symbols →
@@ -130,7 +114,8 @@ pub room : (rate i written : ℕ) (octets symbols whole : List ℕ) (s full : St
 room rate i written octets symbols whole s full h filled w enough e =
     let front = take written symbols in
     let n : length front ≡ written = length-take-le written symbols w in
-    let l = lengths front whole _ (full .holds) (full .held) (octet-gone rate i octets front whole s full h filled e) in
+    let gone = ap (λ (l : List ℕ). bitsOf front ++ l) (octet-gone rate i octets s full h filled .symbols) ∙ e in
+    let l = lengths front whole _ (full .holds) (full .held) gone in
     omega arith
 
 -- With nothing to come, the octets are the whole ones and the held symbols the rest.

@@ -2,16 +2,7 @@
 use mathlib.Core.Path.{_≡_, refl}
 use mathlib.Core.List.{List, [], _∷_, _++_, append-assoc}
 use Prim.Native.Nat.{ℕ}
-use Rattle.convolution.specs.Coder.{symbolsFrom, nextRegister, nextPlace}
-
--- The register and the place that bits lead to.
-abbrev pub registerAfter : ℕ → List ℕ → ℕ
-registerAfter register [] = register
-registerAfter register (bit ∷ bits) = registerAfter (nextRegister register bit) bits
-
-abbrev pub placeAfter : ℕ → ℕ → List ℕ → ℕ
-placeAfter rate place [] = place
-placeAfter rate place (bit ∷ bits) = placeAfter rate (nextPlace rate place) bits
+use Rattle.convolution.specs.Coder.{symbolsFrom, nextRegister, nextPlace, registerAfter, placeAfter}
 
 pub symbols-append : (rate register place : ℕ) (first second : List ℕ) →
     symbolsFrom rate register place (first ++ second)
@@ -20,3 +11,11 @@ pub symbols-append : (rate register place : ℕ) (first second : List ℕ) →
 symbols-append rate register place [] second = refl
 symbols-append rate register place (bit ∷ first) second =
     rw (symbols-append rate (nextRegister register bit) (nextPlace rate place) first second, append-assoc)
+
+pub register-append : (register : ℕ) (first second : List ℕ) → registerAfter register (first ++ second) ≡ registerAfter (registerAfter register first) second
+register-append register [] second = refl
+register-append register (bit ∷ first) second = register-append (nextRegister register bit) first second
+
+pub place-append : (rate place : ℕ) (first second : List ℕ) → placeAfter rate place (first ++ second) ≡ placeAfter rate (placeAfter rate place first) second
+place-append rate place [] second = refl
+place-append rate place (bit ∷ first) second = place-append rate (nextPlace rate place) first second

@@ -66,7 +66,16 @@ nextRegister register bit = (register * 2 + bit) % 64
 abbrev pub nextPlace : ℕ → ℕ → ℕ
 nextPlace rate place = (place + 1) % period rate
 
--- The symbols of bits, from a register and a place on. A call starts at register 0 and place 0.
+-- The register and the place that bits lead to.
+abbrev pub registerAfter : ℕ → List ℕ → ℕ
+registerAfter register [] = register
+registerAfter register (bit ∷ bits) = registerAfter (nextRegister register bit) bits
+
+abbrev pub placeAfter : ℕ → ℕ → List ℕ → ℕ
+placeAfter rate place [] = place
+placeAfter rate place (bit ∷ bits) = placeAfter rate (nextPlace rate place) bits
+
+-- The symbols of bits, from a register and a place on. The coder starts at register 0 and place 0.
 abbrev pub symbolsFrom : ℕ → ℕ → ℕ → List ℕ → List ℕ
 symbolsFrom rate register place [] = []
 symbolsFrom rate register place (bit ∷ bits) =
@@ -86,3 +95,10 @@ octetsOf (suc n) symbols = firstOctet symbols ∷ octetsOf n (drop 8 symbols)
 -- Symbols packed into octets, the last filled with zeros.
 abbrev pub packed : List ℕ → List ℕ
 packed symbols = octetsOf (octetsFor (length symbols)) symbols
+
+-- The octets that symbols fill, and the symbols left over.
+abbrev pub filled : List ℕ → List ℕ
+filled symbols = octetsOf (length symbols / 8) symbols
+
+abbrev pub left : List ℕ → List ℕ
+left symbols = drop (8 * (length symbols / 8)) symbols

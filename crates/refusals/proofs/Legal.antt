@@ -5,8 +5,8 @@ use mathlib.Core.List.{List, [], _∷_}
 use Prim.Native.Nat.{ℕ, _≤_, _<_}
 use native.Mathlib.Omega.{arith}
 use Rattle.refusals.specs.Order.{FirstOf, OneOf}
-use Rattle.refusals.specs.Sizes.{strengths, depths, rates, information}
-use Rattle.refusals.specs.Working.{wordParameters, allowedParameters}
+use Rattle.refusals.specs.Sizes.{strengths, depths, rates, period, information}
+use Rattle.refusals.specs.Working.{wordParameters, allowedParameters, coderParameters}
 use Rattle.refusals.proofs.Orders.{Numbered, Clear, accepted-clear, one-of}
 
 -- The least and the largest number of a list bound every one of it.
@@ -90,3 +90,23 @@ allowed-numbers e i q s = (omega arith, (omega arith, (omega arith, (omega arith
 
 pub accepted-words : (e i q : ℕ) → FirstOf (wordParameters e i q) 0 → LegalWords e i q
 accepted-words e i q f = legal-words e i q (accepted-clear (wordParameters e i q) (word-numbers e i q) f)
+
+-- What is known of the coder's numbers once check 7 has passed.
+pub record LegalCoder (r bits at held : ℕ) : Type 0 where
+  pub rate : OneOf rates r
+  pub register : bits < 64
+  pub place : at < period r
+  pub holds : held < 8
+
+pub coder-numbers : (r bits at held : ℕ) → Numbered (coderParameters r bits at held)
+coder-numbers r bits at held = (omega arith, (omega arith, (omega arith, (omega arith, tt))))
+
+pub accepted-coder : (r bits at held : ℕ) → FirstOf (coderParameters r bits at held) 0 → LegalCoder r bits at held
+accepted-coder r bits at held f =
+    let clear = accepted-clear (coderParameters r bits at held) (coder-numbers r bits at held) f in
+    record {
+      rate = one-of rates r (clear .0);
+      register = omega (arith, clear .1 .0);
+      place = omega (arith, clear .1 .1 .0);
+      holds = omega (arith, clear .1 .1 .1 .0);
+    }

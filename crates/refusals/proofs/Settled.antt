@@ -7,7 +7,7 @@ use lib.ListN.{getD}
 use Rattle.refusals.specs.Order.{Check, FirstOf, OneOf, Tells}
 use Rattle.refusals.specs.Sizes.{strengths}
 use Rattle.refusals.specs.Numbers.{parameterNumber, verdictNumber, markerNumber}
-use Rattle.refusals.specs.Calls.{encodeOrder, portionOrder, closeOrder, decodeParameters, randomiseOrder, convolveOrder, markerParameters, searchOrder, transmitOrder, receiveParameters}
+use Rattle.refusals.specs.Calls.{encodeOrder, portionOrder, closeOrder, decodeParameters, randomiseOrder, convolveOrder, coderCloseOrder, markerParameters, searchOrder, transmitOrder, receiveParameters}
 use Rattle.refusals.specs.declared.Parameter.{Parameter}
 use Rattle.refusals.specs.declared.Parameter.the-variants.{Strength, Depth, Fill, Allowance, Input, Output, Rate, Tolerance, Start, Progress}
 use Rattle.refusals.specs.declared.Verdict.{Verdict}
@@ -82,8 +82,11 @@ module _ (v w : Verdict) where
   pub randomise-parameters-settled : (block : ℕ) → Settled (randomiseOrder block)
   randomise-parameters-settled block = verdict-settled (randomiseOrder block) v w
 
-  pub convolve-parameters-settled : (r octets symbols : ℕ) → Settled (convolveOrder r octets symbols)
-  convolve-parameters-settled r octets symbols = verdict-settled (convolveOrder r octets symbols) v w
+  pub convolve-parameters-settled : (r bits at held octets symbols : ℕ) → Settled (convolveOrder r bits at held octets symbols)
+  convolve-parameters-settled r bits at held octets symbols = verdict-settled (convolveOrder r bits at held octets symbols) v w
+
+  pub coder-close-parameters-settled : (r bits at held symbols : ℕ) → Settled (coderCloseOrder r bits at held symbols)
+  coder-close-parameters-settled r bits at held symbols = verdict-settled (coderCloseOrder r bits at held symbols) v w
 
   pub marker-parameters-settled : (t octets : ℕ) → Settled (markerParameters t octets)
   marker-parameters-settled t octets = verdict-settled (markerParameters t octets) v w

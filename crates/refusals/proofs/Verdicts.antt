@@ -1,4 +1,4 @@
--- How a call answers its order: by the verdict on checks 1 to 3, then by what comes after them.
+-- How a call answers its order: by the verdict on its first checks, then by what comes after them.
 use mathlib.Core.Path.{_≡_, refl, sym, _∙_, subst}
 use mathlib.Core.Bool.{Bool, true, false}
 use mathlib.Core.Logic.{_≢_, _⊎_, inl, inr, ⊎-elim}
@@ -8,12 +8,12 @@ use native.Mathlib.Omega.{arith}
 use Rattle.refusals.specs.Order.{Check, FirstOf, Tells}
 use Rattle.refusals.specs.Numbers.{parameterNumber, verdictNumber}
 use Rattle.refusals.specs.Calls.{allowance, input, output}
-use Rattle.refusals.specs.Working.{wordParameters, allowedParameters}
+use Rattle.refusals.specs.Working.{wordParameters, allowedParameters, coderParameters}
 use Rattle.refusals.specs.declared.Parameter.{Parameter}
 use Rattle.refusals.specs.declared.Parameter.the-variants.{Strength, Depth, Fill, Allowance, Input, Output, Rate, Tolerance, Start, Progress}
 use Rattle.refusals.specs.declared.Verdict.{Verdict}
 use Rattle.refusals.specs.declared.Verdict.the-variants.{Accepted, Refused}
-use Rattle.refusals.proofs.Legal.{word-numbers, allowed-numbers}
+use Rattle.refusals.proofs.Legal.{word-numbers, allowed-numbers, coder-numbers}
 use Rattle.refusals.proofs.Orders.{Begins, first-stops, first-passes, first-accepts}
 
 -- Parameters are refused by 1 to 8, by 11 and by 14, so by neither 0, which is accepted, nor 9 nor 10, which are not about parameters.
@@ -58,6 +58,10 @@ after-allowance e i q s n f g = first-passes (allowedParameters e i q s) n (allo
 
 pub allowed-words : (e i q s : ℕ) → FirstOf (allowedParameters e i q s) 0 → FirstOf (wordParameters e i q) 0
 allowed-words e i q s f = first-accepts (FirstOf (allowance e s ∷ []) 0) (wordParameters e i q) (word-numbers e i q) f
+
+-- So with check 7.
+pub after-coder : {rest : Type 0} (r bits at held n : ℕ) → FirstOf (coderParameters r bits at held) 0 → rest → Begins (coderParameters r bits at held) n rest
+after-coder r bits at held n f g = first-passes (coderParameters r bits at held) n (coder-numbers r bits at held) f g
 
 -- The lengths that were computed are those required.
 pub same-lengths : (a b c d given out n : ℕ) → a ≡ c → b ≡ d → FirstOf (input given a ∷ output out b ∷ []) n → FirstOf (input given c ∷ output out d ∷ []) n

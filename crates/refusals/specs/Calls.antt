@@ -1,13 +1,15 @@
--- The twelve checks, and the order in which each of the ten calls makes them (document 01, "Refusal numbers and the order of checks"; document 02, (ii)).
+-- The twelve checks, and the order in which each of the eleven calls makes them (document 01, "Refusal numbers and the order of checks"; document 02,
+-- (ii) and (iii)).
 use mathlib.Core.Path.{_≡_}
 use mathlib.Core.Bool.{Bool, true}
 use mathlib.Core.Logic.{_≢_, _⊎_}
 use mathlib.Core.List.{List, [], _∷_, _++_}
-use Prim.Native.Nat.{ℕ, _+_, _-_, _*_, _<_}
+use Prim.Native.Nat.{ℕ, _+_, _-_, _*_, _/_, _≤_, _<_}
 use Rattle.refusals.specs.Order.{Check, OneOf}
-use Rattle.refusals.specs.Sizes.{strengths, depths, rates, information, frameLength, blockLength, checksLength, markedLength, symbolCount, octetsFor}
+use Rattle.refusals.specs.Sizes.{strengths, depths, rates, period, information, frameLength, blockLength, checksLength, markedLength, symbolCount, octetsFor}
 
--- The checks, each with its number; 5 has two forms, for a length that is not the one required and for one over the limit.
+-- The checks, each with its number; 5 has two forms, for a length that is not the one required and for one over the limit, and 7 four,
+-- for the rate and for the coder's state: a register over six bits, a place that the period does not have, more than seven symbols held.
 abbrev pub strength : ℕ → Check
 strength e = (1, (OneOf strengths e → ⊥))
 
@@ -31,6 +33,15 @@ output len required = (6, len ≢ required)
 
 abbrev pub rate : ℕ → Check
 rate r = (7, (OneOf rates r → ⊥))
+
+abbrev pub register : ℕ → Check
+register bits = (7, 63 < bits)
+
+abbrev pub place : ℕ → ℕ → Check
+place r at = (7, period r ≤ at)
+
+abbrev pub holding : ℕ → Check
+holding n = (7, 7 < n)
 
 abbrev pub tolerance : ℕ → Check
 tolerance t = (8, 3 < t)
@@ -74,8 +85,13 @@ decodeOrder e i q s block frame uncorrectable = decodeParameters e i q s block f
 abbrev pub randomiseOrder : ℕ → List Check
 randomiseOrder block = inputOver 2040 block ∷ []
 
-abbrev pub convolveOrder : ℕ → ℕ → ℕ → List Check
-convolveOrder r octets symbols = rate r ∷ inputOver 2044 octets ∷ output symbols (octetsFor (symbolCount r octets)) ∷ []
+-- A call of the coder gives the whole octets of the symbols held and its own; a close gives one octet if any are held.
+abbrev pub convolveOrder : ℕ → ℕ → ℕ → ℕ → ℕ → ℕ → List Check
+convolveOrder r bits at held octets symbols =
+    rate r ∷ register bits ∷ place r at ∷ holding held ∷ inputOver 2044 octets ∷ output symbols ((held + symbolCount r at octets) / 8) ∷ []
+
+abbrev pub coderCloseOrder : ℕ → ℕ → ℕ → ℕ → ℕ → List Check
+coderCloseOrder r bits at held symbols = rate r ∷ register bits ∷ place r at ∷ holding held ∷ output symbols (octetsFor held) ∷ []
 
 abbrev pub markerParameters : ℕ → ℕ → List Check
 markerParameters t octets = tolerance t ∷ input octets 4 ∷ []

@@ -34,9 +34,11 @@ markedLength i q = blockLength i q + 4
 abbrev pub period : ℕ → ℕ
 period rate = getD (1 ∷ 2 ∷ 3 ∷ 5 ∷ 7 ∷ []) (rate - 1) 1
 
--- The symbols of n octets, 8n plus 8n/p rounded up; and the octets that hold so many symbols.
-abbrev pub symbolCount : ℕ → ℕ → ℕ
-symbolCount rate n = 8 * n + (8 * n + (period rate - 1)) / period rate
+-- The symbols of n octets from a place of the period on: one for each bit, and one more for each period that begins with one of them;
+-- from place 0 on, 8n plus 8n/p rounded up.
+abbrev pub symbolCount : ℕ → ℕ → ℕ → ℕ
+symbolCount rate place n = 8 * n + ((place + 8 * n + (period rate - 1)) / period rate - (place + (period rate - 1)) / period rate)
 
+-- The octets that hold so many symbols.
 abbrev pub octetsFor : ℕ → ℕ
 octetsFor symbols = (symbols + 7) / 8

@@ -1,11 +1,11 @@
-// Each call's checks of parameters and lengths, in the order of document 01.
+// Each call's checks of parameters and lengths, in the order of document 01; the coder's are in `coder`.
 ghost use mathlib.Core.Path.{_≡_};
 ghost use mathlib.Core.List.{[], _∷_, _++_};
 ghost use Prim.Native.Nat.{_+_, _*_, _≤_};
 ghost use Rattle.refusals.specs.Order.{FirstOf, OneOf, Tells};
-ghost use Rattle.refusals.specs.Sizes.{strengths, depths, rates, frameLength, blockLength, symbolCount};
+ghost use Rattle.refusals.specs.Sizes.{strengths, depths, frameLength, blockLength};
 ghost use Rattle.refusals.specs.Numbers.{verdictNumber};
-ghost use Rattle.refusals.specs.Calls.{input, output, encodeOrder, decodeParameters, randomiseOrder, convolveOrder, markerParameters, searchOrder, transmitOrder, receiveParameters};
+ghost use Rattle.refusals.specs.Calls.{input, output, encodeOrder, decodeParameters, randomiseOrder, markerParameters, searchOrder, transmitOrder, receiveParameters};
 ghost use Rattle.refusals.specs.Working.{wordParameters, allowedParameters};
 use crate::Parameter;
 use crate::Verdict;
@@ -32,18 +32,6 @@ fn depth_legal(depth: u32) -> bool
         return true;
     }
     if depth == 8 {
-        return true;
-    }
-    false
-}
-
-fn rate_legal(rate: u32) -> bool
-    ensures { λ r. ⌜ Tells r (OneOf rates rate) ⌝ }
-{
-    if rate == 0 {
-        return false;
-    }
-    if rate <= 5 {
         return true;
     }
     false
@@ -189,35 +177,6 @@ pub fn randomise_parameters(block: usize) -> Verdict
 {
     if block > 2040 {
         return Verdict::Refused(Parameter::Input);
-    }
-    Verdict::Accepted
-}
-
-fn symbols_of(rate: u32, octets: usize) -> usize
-    requires { ⌜ OneOf rates rate × (octets ≤ 2044) ⌝ }
-    ensures { λ r. ⌜ (r ≡ symbolCount rate octets) × (r ≤ 32704) ⌝ }
-{
-    let bits = 8 * octets;
-    match rate {
-        1 => bits + bits,
-        2 => bits + (bits + 1) / 2,
-        3 => bits + (bits + 2) / 3,
-        4 => bits + (bits + 4) / 5,
-        _ => bits + (bits + 6) / 7,
-    }
-}
-
-pub fn convolve_parameters(rate: u32, octets: usize, symbols: usize) -> Verdict
-    ensures { λ r. ⌜ FirstOf (convolveOrder rate octets symbols) (verdictNumber r) ⌝ }
-{
-    if !rate_legal(rate) {
-        return Verdict::Refused(Parameter::Rate);
-    }
-    if octets > 2044 {
-        return Verdict::Refused(Parameter::Input);
-    }
-    if symbols != (symbols_of(rate, octets) + 7) / 8 {
-        return Verdict::Refused(Parameter::Output);
     }
     Verdict::Accepted
 }

@@ -1,9 +1,9 @@
 // The refusals of documents 01 and 02: their names and numbers, and the checks of parameters and lengths that the calls share.
 mod checks;
+mod coder;
 mod numbers;
 mod portions;
 
-pub use checks::convolve_parameters;
 pub use checks::decode_parameters;
 pub use checks::encode_parameters;
 pub use checks::marker_parameters;
@@ -12,6 +12,8 @@ pub use checks::receive_parameters;
 pub use checks::search_parameters;
 pub use checks::strength_legal;
 pub use checks::transmit_parameters;
+pub use coder::coder_close_parameters;
+pub use coder::convolve_parameters;
 pub use numbers::marker_number;
 pub use numbers::parameter_number;
 pub use numbers::verdict_number;
