@@ -11,7 +11,7 @@ use Rattle.convolution.specs.declared.State.{State}
 use Rattle.convolution.specs.declared.Ran.{Ran}
 use Rattle.convolution.specs.declared.Convolved.{Convolved}
 use Rattle.convolution.specs.Coder.{lowBits, bitsOf, symbolsFrom, registerAfter, placeAfter, firstOctet, packed, filled, left}
-use Rattle.convolution.specs.Outcome.{convolvedNumber, convolvedCount, heldOf, symbolsOf, toSend, stateAfter, ConvolveOutcome, CloseOutcome}
+use Rattle.convolution.specs.Outcome.{convolvedNumber, convolvedCount, zeroState, heldOf, symbolsOf, toSend, stateAfter, ConvolveOutcome, CloseOutcome}
 use Rattle.convolution.proofs.Bits.{bits-append}
 use Rattle.convolution.proofs.Symbols.{symbols-append, register-append, place-append}
 use Rattle.convolution.proofs.Count.{symbol-count-anew}
@@ -136,9 +136,6 @@ closed-calls rate s input written count t before after answer calls o none =
       ap₂ _++_ (g .symbols) (o .symbols none ∙ ap packed held) ∙ sym (cut-packed _ _ _ cut),
       ap₂ (λ (l : List ℕ) (n : ℕ). 8 * length l + n) (g .symbols) (o .count none ∙ ap (λ (u : State). u .holds) (g .state)) ∙ sym (cut-length _ _ _ cut),
     )
-
-abbrev pub zeroState : State
-zeroState = record { register = 0; place = 0; holds = 0; held = 0 }
 
 -- From the zero state these are document 01's symbols; the calls reported all n of them, and the close those m that stand in its octet.
 pub record Closed (rate : ℕ) (input written after : List ℕ) (n m : ℕ) : Type 0 where

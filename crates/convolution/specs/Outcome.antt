@@ -24,6 +24,10 @@ abbrev pub convolvedCount : Convolved → ℕ
 convolvedCount (Done count) = count
 convolvedCount (Refused parameter) = 0
 
+-- The state at the start: document 01's coder, with nothing held.
+abbrev pub zeroState : State
+zeroState = record { register = 0; place = 0; holds = 0; held = 0 }
+
 -- The symbols that a state holds: the topmost of the octet. The bits below them are not looked at.
 abbrev pub heldOf : State → List ℕ
 heldOf s = take (s .holds) (lowBits 8 (s .held))
