@@ -2,8 +2,8 @@
 -- after calls from the zero state completes the packed symbols of document 01.
 use mathlib.Core.Path.{_≡_, sym, ap, ap₂, _∙_, subst}
 use mathlib.Core.List.{List, _++_, append-assoc}
-use Prim.Native.Nat.{ℕ, _+_, _-_, _*_, _/_, _%_, _^_}
-use lib.ListN.{length, length-append}
+use Prim.Native.Nat.{ℕ, _+_, _-_, _*_, _/_, _%_, _^_, _<_}
+use lib.ListN.{length, replicate, length-append}
 use Rattle.refusals.specs.Order.{FirstOf, OneOf}
 use Rattle.refusals.specs.Sizes.{period, rates}
 use Rattle.refusals.specs.Calls.{coderCloseOrder}
@@ -15,36 +15,24 @@ use Rattle.convolution.specs.Outcome.{convolvedNumber, convolvedCount, z
 use Rattle.convolution.proofs.Bits.{bits-append}
 use Rattle.convolution.proofs.Symbols.{symbols-append, register-append, place-append}
 use Rattle.convolution.proofs.Count.{symbol-count-anew}
-use Rattle.convolution.proofs.Packing.{AreBits, bits-joined, bits-taken, bits-dropped, low-bits, symbols-bits, Cut, cut-into, cut-further, cut-filled, cut-left, cut-length, cut-packed, held-back, zeros-below}
+use Rattle.convolution.proofs.Packing.{AreBits, bits-joined, bits-taken, bits-dropped, low-bits, symbols-bits, Cut, cut-into, cut-further, cut-filled, cut-left, cut-length, cut-packed, held-back, zeros-below, short-packed}
 use Rattle.convolution.proofs.Outcomes.{legal, legal-close}
-use Rattle.convolution.proofs.Accepting.{same-state}
+use Rattle.convolution.proofs.Accepting.{same-state, held-length}
 
 -- ---- two inputs one after the other
 
 module _ (rate : ℕ) where
-  send-bits : (s : State) (octets : List ℕ) → AreBits (toSend rate s octets)
+  pub send-bits : (s : State) (octets : List ℕ) → AreBits (toSend rate s octets)
   send-bits s octets =
       bits-joined (heldOf s) (symbolsOf rate s octets) (bits-taken (s .holds) (lowBits 8 (s .held)) (low-bits 8 (s .held))) (symbols-bits rate (s .register) (s .place) (bitsOf octets))
 
-  whole-cut : (s : State) (octets : List ℕ) → Cut (toSend rate s octets) (filled (toSend rate s octets)) (left (toSend rate s octets))
+  pub whole-cut : (s : State) (octets : List ℕ) → Cut (toSend rate s octets) (filled (toSend rate s octets)) (left (toSend rate s octets))
   whole-cut s octets = cut-into (toSend rate s octets) (send-bits s octets)
 
   -- What a call holds at its end is what it could not write.
   pub held-after : (s : State) (octets : List ℕ) → heldOf (stateAfter rate s octets) ≡ left (toSend rate s octets)
   held-after s octets =
       held-back (left (toSend rate s octets)) (bits-dropped (8 * (length (toSend rate s octets) / 8)) (toSend rate s octets) (send-bits s octets)) (whole-cut s octets .few)
-
-  -- Below the symbols held the octet is zero on return; on entry what is below them changes nothing.
-  pub clean-after : (s : State) (octets : List ℕ) → stateAfter rate s octets .held % 2 ^ (8 - stateAfter rate s octets .holds) ≡ 0
-  clean-after s octets =
-      zeros-below (left (toSend rate s octets)) (bits-dropped (8 * (length (toSend rate s octets) / 8)) (toSend rate s octets) (send-bits s octets)) (whole-cut s octets .few)
-
-  pub dirt-ignored : (s t : State) (octets : List ℕ) → s .register ≡ t .register → s .place ≡ t .place → heldOf s ≡ heldOf t → (toSend rate s octets ≡ toSend rate t octets) × (stateAfter rate s octets ≡ stateAfter rate t octets)
-  dirt-ignored s t octets register place held =
-      let send : toSend rate s octets ≡ toSend rate t octets = ap₂ _++_ held (ap₂ (λ (r p : ℕ). symbolsFrom rate r p (bitsOf octets)) register place) in (
-        send,
-        same-state (stateAfter rate s octets) (stateAfter rate t octets) (ap (λ (r : ℕ). registerAfter r (bitsOf octets)) register) (ap (λ (p : ℕ). placeAfter rate p (bitsOf octets)) place) (ap (λ (l : List ℕ). length (left l)) send) (ap (λ (l : List ℕ). firstOctet (left l)) send),
-      )
 
   module _ (s : State) (first second : List ℕ) where
     abbrev next : State
@@ -122,6 +110,20 @@ two-calls-joined rate s first second before before′ after after′ r t p e q f
     calls-joined rate s _ _ _ _ (more second before′ t after′ (one first before r after p e) q f)
 
 -- ---- the close
+
+-- A close gives the held symbols, and how many they are: its octet, if there is one, has them as its bits, then zeros.
+pub close-gives-held : (rate : ℕ) (s : State) (before after : List ℕ) (answer : Convolved) → CloseOutcome rate s before answer after → convolvedNumber answer ≡ 0 →
+    (bitsOf after ≡ heldOf s ++ replicate (8 * length after - s .holds) 0) × (convolvedCount answer ≡ s .holds)
+close-gives-held rate s before after answer o none =
+    let known = legal-close rate s (length before) (subst (λ (n : ℕ). FirstOf (coderCloseOrder rate (s .register) (s .place) (s .holds) (length before)) n) none (o .number)) in
+    let few = known .coder .holds in
+    let short : length (heldOf s) ≡ s .holds = held-length s few in
+    let held : AreBits (heldOf s) = bits-taken (s .holds) (lowBits 8 (s .held)) (low-bits 8 (s .held)) in (
+      ap bitsOf (o .symbols none)
+      ∙ short-packed (heldOf s) held (subst (λ (n : ℕ). n < 8) (sym short) few)
+      ∙ ap₂ (λ (l : List ℕ) (n : ℕ). heldOf s ++ replicate (8 * length l - n) 0) (sym (o .symbols none)) short,
+      o .count none,
+    )
 
 -- A close after calls completes the packing of all that was to be sent, and of the symbols so many stand in its octet.
 pub closed-calls : (rate : ℕ) (s : State) (input written : List ℕ) (count : ℕ) (t : State) (before after : List ℕ) (answer : Convolved) →

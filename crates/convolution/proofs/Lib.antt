@@ -13,3 +13,5 @@ pub mod Tables
 pub mod Outcomes
 pub mod Accepting
 pub mod Calls
+pub mod Held
+pub mod Continuing

@@ -1,19 +1,20 @@
 -- Symbols, each 0 or 1, are the bits of octets and fewer than eight more, in one way only; and so they are packed. By induction on the octets.
 use mathlib.Core.Path.{_≡_, refl, sym, ap, ap₂, _∙_, subst}
 use mathlib.Core.Bool.{Bool, true, false, cond}
-use mathlib.Core.List.{List, [], _∷_, _++_, append-assoc}
+use mathlib.Core.List.{List, [], _∷_, _++_, append-assoc, append-nil}
 use Prim.Native.Nat.{ℕ, zero, suc, _+_, _-_, _*_, _/_, _%_, _^_, _≤_, _<_, suc-le-suc}
 use native.Mathlib.Nat.{pow-suc, le-refl, lt-of-lt-of-le}
+use native.Mathlib.Numerals.{add-one}
 use native.Mathlib.Omega.{arith}
 use lib.Arith.{digits-div, digits-mod}
 use lib.Dec.{eqb}
 use lib.Pow.{pow-mono}
-use lib.ListN.{length, getD, take, drop, length-append, length-drop, take-append-drop}
+use lib.ListN.{length, getD, take, drop, replicate, length-append, length-drop, take-append-drop, replicate-append-replicate}
 use lib.Seq.{length-take-le, drop-at, drop-drop}
 use Rattle.refusals.specs.Sizes.{octetsFor}
 use Rattle.convolution.specs.Coder.{lowBits, bitsOf, sent, inverted, connected, g1, g2, patternAt, c1Patterns, c2Patterns, symbolsAt, symbolsFrom, nextRegister, nextPlace, firstOctet, octetsOf, packed, filled, left}
 use Rattle.field.proofs.Below.{agree, at-below, equal-below}
-use Rattle.convolution.proofs.Bits.{low-first, low-mod, top-low, bits-append, bits-length}
+use Rattle.convolution.proofs.Bits.{low-first, low-split, low-mod, top-low, bits-append, bits-length}
 
 -- ---- lists of bits
 
@@ -228,3 +229,22 @@ zeros-below rest p h =
     let small : x < 128 = lt-of-lt-of-le (number-small rest p) (pow-mono {i = n} {j = 7} (omega arith)) in
     ap (λ (l : List ℕ). firstOctet l % 2 ^ (8 - n)) (sym (number-bits rest p))
     ∙ equal-below (below n) (λ y. 0) 128 (at-below (λ k. agree (below k) (λ y. 0) 128) 8 tt n h) x small
+
+low-zero : (n : ℕ) → lowBits n 0 ≡ replicate n 0
+low-zero zero = refl
+low-zero (suc n) =
+    ap (λ (l : List ℕ). l ++ (0 ∷ [])) (low-zero n) ∙ replicate-append-replicate n 1 0 ∙ ap (λ (m : ℕ). replicate m 0) (add-one n)
+
+-- So symbols short of an octet are packed: nothing, or an octet whose bits are the symbols, then zeros.
+pub short-packed : (rest : List ℕ) → AreBits rest → length rest < 8 → bitsOf (packed rest) ≡ rest ++ replicate (8 * length (packed rest) - length rest) 0
+short-packed [] p h = refl
+short-packed (s ∷ more) p h =
+    let rest = s ∷ more in
+    let n = length rest in
+    let x = firstOctet rest in
+    let all : n + (8 - n) ≡ 8 = omega arith in
+    let bits : lowBits 8 x ≡ rest ++ replicate (8 - n) 0 =
+    ap (λ (m : ℕ). lowBits m x) (sym all)
+    ∙ low-split n (8 - n) x
+    ∙ ap₂ _++_ (top-low n x (omega arith) ∙ held-back rest p h) (sym (low-mod (8 - n) (8 - n) x (le-refl (8 - n))) ∙ ap (lowBits (8 - n)) (zeros-below rest p h) ∙ low-zero (8 - n)) in
+    subst (λ (l : List ℕ). bitsOf l ≡ rest ++ replicate (8 * length l - n) 0) (sym (packed-short rest (omega arith) h)) (append-nil (lowBits 8 x) ∙ bits)

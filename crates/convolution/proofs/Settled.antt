@@ -14,14 +14,14 @@ use Rattle.convolution.specs.declared.Convolved.the-variants.{Done, Refu
 use Rattle.convolution.specs.Outcome.{convolvedNumber, convolvedCount, ConvolveOutcome, CloseOutcome}
 
 -- An answer is known by its number and its count.
-convolved-known : (a b : Convolved) → convolvedNumber a ≡ convolvedNumber b → (convolvedNumber a ≡ 0 → convolvedCount a ≡ convolvedCount b) → a ≡ b
+pub convolved-known : (a b : Convolved) → convolvedNumber a ≡ convolvedNumber b → (convolvedNumber a ≡ 0 → convolvedCount a ≡ convolvedCount b) → a ≡ b
 convolved-known (Done m) (Done n) e count = ap Done (count refl)
 convolved-known (Done m) (Refused s) e count = absurd (parameter-nonzero s (sym e))
 convolved-known (Refused r) (Done n) e count = absurd (parameter-nonzero r e)
 convolved-known (Refused r) (Refused s) e count = ap Refused (parameter-known r s e)
 
 -- What is the same when accepted, and when refused, is the same.
-either-way : {A : Type 0} {x y : A} (a : Convolved) → (convolvedNumber a ≡ 0 → x ≡ y) → ((convolvedNumber a ≡ 0 → ⊥) → x ≡ y) → x ≡ y
+pub either-way : {A : Type 0} {x y : A} (a : Convolved) → (convolvedNumber a ≡ 0 → x ≡ y) → ((convolvedNumber a ≡ 0 → ⊥) → x ≡ y) → x ≡ y
 either-way (Done n) accepted refused = accepted refl
 either-way (Refused p) accepted refused = refused (parameter-nonzero p)
 

@@ -1,16 +1,22 @@
--- Every case of the table holds: (A) to (I) by computing; (J) and (K) because zeros are a codeword, the one within 16 symbols, and because
+-- Every case of the table holds: (A) to (I) by computing, (G) to (I) also because the coder is settled; (J) and (K) because zeros are a codeword, the one within 16 symbols, and because
 -- encode and decode are settled.
-use mathlib.Core.Path.{_≡_, refl, sym, ap, _∙_}
+use mathlib.Core.Path.{_≡_, refl, sym, ap, _∙_, subst}
 use mathlib.Core.Logic.{inl, inr}
 use mathlib.Core.List.{List, [], _∷_}
-use Prim.Native.Nat.{ℕ, zero, suc, _+_, _*_, _≤_, _<_}
+use Prim.Native.Nat.{ℕ, zero, suc, _+_, _*_, _/_, _≤_, _<_}
 use native.Mathlib.Omega.{arith}
 use lib.ListN.{length, getD, replicate}
 use Rattle.field.specs.Field.{_⊕_, _·_, shiftAndAdd, timesAlpha, whereSet}
 use Rattle.field.specs.Line.{toLine, toConventional}
 use Rattle.randomiser.specs.Sequence.{sequenceOctet, numberFrom, bitFrom, bitAfter}
-use Rattle.convolution.specs.Coder.{symbolsAt}
-use Rattle.refusals.specs.Order.{FirstOf}
+use Rattle.convolution.specs.declared.State.{State}
+use Rattle.convolution.specs.declared.Convolved.the-variants.{Done}
+use Rattle.convolution.specs.Coder.{symbolsAt, packed, filled}
+use Rattle.convolution.specs.Outcome.{ConvolveOutcome, CloseOutcome, zeroState, heldOf, symbolsOf, toSend, stateAfter}
+use Rattle.convolution.proofs.Settled.{convolve-settled, close-settled}
+use Rattle.convolution.proofs.Continuing.{LegalState, zero-legal, next-legal, call-permitted, close-permitted}
+use Rattle.refusals.specs.Order.{FirstOf, OneOf}
+use Rattle.refusals.specs.Sizes.{rates, octetsFor}
 use Rattle.refusals.specs.Calls.{strength, depth, fill, decodeParameters}
 use Rattle.refusals.specs.declared.Verdict.the-variants.{Accepted}
 use Rattle.refusals.specs.declared.WordRefusal.the-variants.{NoCodeword}
@@ -28,7 +34,39 @@ use Rattle.reed_solomon.proofs.Settled.{encode-settled}
 use Rattle.reed_solomon.proofs.DecodeSettled.{decode-settled}
 use Rattle.reed_solomon.proofs.Deliverable.{Passed, all-found, some-lost}
 use Rattle.reed_solomon.proofs.ZeroBlocks.{zeros-encoded}
-use Rattle.examples.specs.Table.{Encodes, Decodes, AllHold, zeroBlock, changedBlock, cases}
+use Rattle.examples.specs.Table.{Convolves, Encodes, Decodes, AllHold, zeroBlock, changedBlock, cases}
+
+-- ---- (G) to (I)
+
+-- what the definitions compute from the zero state on is what convolve and a close permit, and the only thing
+module _ (rate : ℕ) (legal : OneOf rates rate) (octets written closed : List ℕ) (count : ℕ) (state : State) where
+  convolves : length octets ≤ 2044
+      → count ≡ length (symbolsOf rate zeroState octets)
+      → written ≡ filled (toSend rate zeroState octets)
+      → length written ≡ length (toSend rate zeroState octets) / 8
+      → state ≡ stateAfter rate zeroState octets
+      → closed ≡ packed (heldOf state)
+      → length closed ≡ octetsFor (state .holds)
+      → (before room : List ℕ) → length before ≡ length written → length room ≡ length closed
+      → Convolves rate octets before room (record { answer = Done count; state = state }) written (Done (state .holds)) closed
+  convolves few counts writes size leaves rest size′ before room fits fits′ =
+      let start = zero-legal rate legal in
+      let next : LegalState rate state = subst (LegalState rate) (sym leaves) (next-legal rate zeroState octets start) in
+      let permitted : ConvolveOutcome rate zeroState octets before (record { answer = Done count; state = state }) written =
+      record {
+        number = call-permitted rate zeroState start octets before few (fits ∙ size) .number;
+        refused = λ not. absurd (not refl);
+        count = λ z. counts;
+        symbols = λ z. writes;
+        state = λ z. leaves;
+      } in
+      let closes : CloseOutcome rate state room (Done (state .holds)) closed = subst (CloseOutcome rate state room (Done (state .holds))) (sym rest) (close-permitted rate state next room (fits′ ∙ size′)) in
+      record {
+        permitted = permitted;
+        only = λ other after P. convolve-settled rate zeroState before after written octets other _ P permitted;
+        closes = closes;
+        closesOnly = λ other after P. close-settled rate state room after closed other _ P closes;
+      }
 
 -- ---- (J)
 
@@ -37,12 +75,12 @@ one-word : (P : ℕ → Type 0) → P 0 → (w : ℕ) → w < 1 → P w
 one-word P p zero h = p
 one-word P p (suc w) h = absurd (omega arith)
 
-zero-legal : FirstOf (strength 16 ∷ depth 1 ∷ fill 16 222 ∷ []) 0
-zero-legal = clear-accepted (strength 16 ∷ depth 1 ∷ fill 16 222 ∷ []) ((λ not. not (inr (inl refl))), ((λ not. not (inl refl)), ((λ over. omega arith), tt)))
+block-legal : FirstOf (strength 16 ∷ depth 1 ∷ fill 16 222 ∷ []) 0
+block-legal = clear-accepted (strength 16 ∷ depth 1 ∷ fill 16 222 ∷ []) ((λ not. not (inr (inl refl))), ((λ not. not (inl refl)), ((λ over. omega arith), tt)))
 
 module _ (before : List ℕ) (size : length before ≡ 33) where
   zero-encoded : EncodeOutcome 16 1 222 (0 ∷ []) before Accepted zeroBlock
-  zero-encoded = zeros-encoded 16 1 222 zero-legal before size
+  zero-encoded = zeros-encoded 16 1 222 block-legal before size
 
   zero-encodes : Encodes 16 1 222 (0 ∷ []) before Accepted zeroBlock
   zero-encodes =
@@ -134,4 +172,7 @@ module _ (before : List ℕ) (size : length before ≡ 1) where
 pub all-hold : AllHold cases
 unfolding toLine toConventional _·_ shiftAndAdd timesAlpha whereSet _⊕_ sequenceOctet numberFrom bitFrom bitAfter symbolsAt
 all-hold =
-    (refl, (refl, (refl, (refl, (refl, (refl, ((refl, refl), ((refl, refl), ((refl, refl), (zero-encodes, (changed-decodes, ((λ before size. changed-refuses before size _ (omega arith)), tt))))))))))))
+    let g = convolves 1 (inl refl) (0x00 ∷ []) (0x55 ∷ 0x55 ∷ []) [] 16 zeroState (omega arith) refl refl refl refl refl refl in
+    let h = convolves 1 (inl refl) (0x80 ∷ []) (0xBA ∷ 0x49 ∷ []) [] 16 zeroState (omega arith) refl refl refl refl refl refl in
+    let i = convolves 3 (inr (inr (inl refl))) (0x80 ∷ []) (0xDC ∷ []) (0xC0 ∷ []) 11 (record { register = 0; place = 2; holds = 3; held = 0xC0 }) (omega arith) refl refl refl refl refl refl in
+    (refl, (refl, (refl, (refl, (refl, (refl, (g, (h, (i, (zero-encodes, (changed-decodes, ((λ before size. changed-refuses before size _ (omega arith)), tt))))))))))))
