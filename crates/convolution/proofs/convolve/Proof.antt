@@ -13,19 +13,28 @@ enum-known-checked : tie.Need-enum-known-checked
 enum-known-checked c = search needs
 
 returns : tie.Need-returns
-returns c = refused-outcome (c .before .before .before .before .before .before .args .rate) (c .before .before .before .before .before .before .args .state) (c .before .before .before .before .before .before .args .octets .now) (c .before .before .before .before .before .before .args .symbols .now) (c .before .before .before .convolve-parameters .result) (c .before .before .before .convolve-parameters .ensures) _ (c .before .checked .given .1)
+returns c =
+    let start = c .before .before .before .before .before .before in
+    let checked = c .before .before .before .convolve-parameters in
+    refused-outcome (start .args .rate) (start .args .state) (start .args .octets .now) (start .args .symbols .now) (checked .result) (checked .ensures) _ (c .before .checked .given .1)
 
 enum-told : tie.Need-enum-told
 enum-told c = search needs
 
 run-on-requires : tie.Need-run-on-requires
-run-on-requires c κs = passed (convolveOrder _ _ _ _ _ _) (c .before .before .before .convolve-parameters .result) (c .before .enum-told .given .1) (c .before .before .before .convolve-parameters .ensures)
+run-on-requires c κs =
+    let checked = c .before .before .before .convolve-parameters in
+    passed (convolveOrder _ _ _ _ _ _) (checked .result) (c .before .enum-told .given .1) (checked .ensures)
 
 same-length : tie.Need-same-length
 same-length c = search needs
 
 returns-2 : tie.Need-returns-2
-returns-2 c = done-outcome (c .before .before .before .before .before .before .before .before .before .args .rate) (c .before .before .before .before .before .before .before .before .before .args .state) (c .before .before .before .before .before .before .before .before .before .args .octets .now) (c .before .before .before .before .before .before .before .before .before .args .symbols .now) (c .before .before .before .before .before .before .convolve-parameters .result) (c .before .before .before .before .before .before .convolve-parameters .ensures) (c .before .before .run-on .result) (c .before .before .run-on .last .1 .1 .1 .0) (c .before .before .before .before .enum-told .given .1) (c .before .before .run-on .ensures)
+returns-2 c =
+    let start = c .before .before .before .before .before .before .before .before .before in
+    let checked = c .before .before .before .before .before .before .convolve-parameters in
+    let run = c .before .before .run-on in
+    done-outcome (start .args .rate) (start .args .state) (start .args .octets .now) (start .args .symbols .now) (checked .result) (checked .ensures) (run .result) (run .last .1 .1 .1 .0) (c .before .before .before .before .enum-told .given .1) (run .ensures)
 
 pub convolve-spec : {M : Type 1} → statement M
 convolve-spec =
