@@ -14,7 +14,9 @@ enum-known-coder : tie.Need-enum-known-coder
 enum-known-coder c = search needs
 
 returns : tie.Need-returns
-returns c = stopped _ (coderParameters _ _ _ _) (c .before .before .before .coder-parameters .result) _ (c .before .coder .given .1) (c .before .before .before .coder-parameters .ensures)
+returns c =
+    let coder = c .before .before .before .coder-parameters in
+    stopped _ (coderParameters _ _ _ _) (coder .result) _ (c .before .coder .given .1) (coder .ensures)
 
 enum-told : tie.Need-enum-told
 enum-told c = search needs
@@ -23,10 +25,14 @@ add-if1 : tie.Need-add-if1
 add-if1 c = search needs
 
 returns-2 : tie.Need-returns-2
-returns-2 c = after-coder _ _ _ _ _ (passed (coderParameters _ _ _ _) (c .before .before .before .coder-parameters .result) (c .before .enum-told .given .1) (c .before .before .before .coder-parameters .ensures)) (inl (c .if1 .taken, refl))
+returns-2 c =
+    let coder = c .before .before .before .coder-parameters in
+    after-coder _ _ _ _ _ (passed (coderParameters _ _ _ _) (coder .result) (c .before .enum-told .given .1) (coder .ensures)) (inl (c .if1 .taken, refl))
 
 returns-3 : tie.Need-returns-3
-returns-3 c = after-coder _ _ _ _ _ (passed (coderParameters _ _ _ _) (c .before .before .before .coder-parameters .result) (c .before .enum-told .given .1) (c .before .before .before .coder-parameters .ensures)) (inr (λ n. n (c .if1 .left), refl))
+returns-3 c =
+    let coder = c .before .before .before .coder-parameters in
+    after-coder _ _ _ _ _ (passed (coderParameters _ _ _ _) (coder .result) (c .before .enum-told .given .1) (coder .ensures)) (inr (λ n. n (c .if1 .left), refl))
 
 pub coder-close-parameters-spec : {M : Type 1} → statement M
 coder-close-parameters-spec =
