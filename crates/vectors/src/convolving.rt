@@ -19,7 +19,7 @@ fn start() -> State {
     state_at(0, 0, 0, 0)
 }
 
-// The octets drawn, and an output of the given length that holds 170 before.
+// A call on octets that are drawn. Each output here has a given length and holds 170 before.
 fn drawn(rate: u32, state: State, octets: usize, output: usize) -> State {
     let mut given = [0u8; 2045];
     let mut symbols = [170u8; 4097];
@@ -39,6 +39,7 @@ fn closed(rate: u32, state: State, output: usize) {
     }
 }
 
+// With an output of the right length.
 fn close_due(rate: u32, state: State) {
     if state.holds == 0 {
         closed(rate, state, 0);
@@ -68,15 +69,19 @@ fn symbols_at(place: usize) -> usize
     if place == 0 { 2 } else { 1 }
 }
 
-fn next(place: usize, period: usize) -> usize
+fn next(place: usize, period: u8) -> usize
     requires { ⌜ place ≤ 65535 ⌝ }
     ensures { λ r. ⌜ r ≤ place + 1 ⌝ }
 {
-    if place + 1 == period { 0 } else { place + 1 }
+    if place + 1 == period as usize {
+        0
+    } else {
+        place + 1
+    }
 }
 
 // The octets that the symbols held and those of so many octets fill.
-fn filled(period: usize, state: State, octets: usize) -> usize
+fn filled(period: u8, state: State, octets: usize) -> usize
     requires { ⌜ octets ≤ 5000 ⌝ }
     ensures { λ r. ⌜ (octets ≤ r) × (r ≤ 2 * octets + 31) ⌝ }
 {
@@ -89,8 +94,8 @@ fn filled(period: usize, state: State, octets: usize) -> usize
     symbols / 8
 }
 
-// Nothing, one octet, the longest input, and one octet more; each with outputs of the right length and of a wrong one.
-fn lengths(rate: u32, period: usize, state: State) {
+// Nothing, one octet and the longest input, each with outputs of the right length and of a wrong one; and one octet more.
+fn lengths(rate: u32, period: u8, state: State) {
     let one = filled(period, state, 1);
     let most = filled(period, state, 2044);
     drawn(rate, state, 0, 0);
@@ -101,7 +106,7 @@ fn lengths(rate: u32, period: usize, state: State) {
     drawn(rate, state, 2044, most);
     drawn(rate, state, 2044, most - 1);
     drawn(rate, state, 2044, most + 1);
-    drawn(rate, state, 2045, most);
+    drawn(rate, state, 2045, filled(period, state, 2045));
 }
 
 // A state that no call handed out, with any bits below the symbols held.
@@ -111,7 +116,7 @@ fn drawn_state(seed: u32, place: u8, holds: u8) -> State {
     state_at(print::drawn(first) % 64, place, holds, print::drawn(second))
 }
 
-fn from_place(rate: u32, period: usize, place: u8)
+fn from_place(rate: u32, period: u8, place: u8)
     requires { ⌜ place ≤ 7 ⌝ }
 {
     for holds in 0u8..8 {
@@ -127,7 +132,7 @@ fn from_each_place(rate: u32, period: u8)
     requires { ⌜ period ≤ 7 ⌝ }
 {
     for place in 0..period {
-        from_place(rate, period as usize, place);
+        from_place(rate, period, place);
     }
 }
 
@@ -166,7 +171,7 @@ fn order() {
     drawn(3, state_at(0, 3, 0, 255), 2045, 3);
     drawn(5, state_at(0, 0, 8, 255), 2045, 3);
     drawn(4, state_at(63, 5, 7, 255), 1, 0);
-    drawn(4, state_at(63, 5, 7, 255), 2045, 2453);
+    drawn(4, state_at(63, 5, 7, 255), 2045, 2454);
     drawn(2, start(), 2045, 3);
     drawn(2, state_at(63, 1, 7, 255), 2045, 3);
     closed(0, start(), 1);
@@ -214,7 +219,7 @@ fn size(y: u32) -> usize {
 
 // Calls one after another until the input is at its end, and the close. No input here takes more than 64 calls; the close would be missing
 // if one did.
-fn cut(rate: u32, period: usize, input: &[u8], symbols: &mut [u8])
+fn cut(rate: u32, period: u8, input: &[u8], symbols: &mut [u8])
     requires { ⌜ length (now input) ≤ 5000 ⌝ }
 {
     let n = input.len();
@@ -239,7 +244,7 @@ fn cut(rate: u32, period: usize, input: &[u8], symbols: &mut [u8])
 }
 
 // The calls and the close, then all that they wrote, joined.
-fn joined(rate: u32, period: usize, input: &[u8], symbols: &mut [u8])
+fn joined(rate: u32, period: u8, input: &[u8], symbols: &mut [u8])
     requires { ⌜ length (now input) ≤ 5000 ⌝ }
 {
     cut(rate, period, input, &mut *symbols);
@@ -250,7 +255,7 @@ fn joined(rate: u32, period: usize, input: &[u8], symbols: &mut [u8])
 }
 
 // An input longer than any call's.
-fn stream(rate: u32, period: usize, sent: usize)
+fn stream(rate: u32, period: u8, sent: usize)
     requires { ⌜ sent ≤ 10000 ⌝ }
 {
     let mut input = [0u8; 5000];
@@ -262,13 +267,12 @@ fn stream(rate: u32, period: usize, sent: usize)
 fn at_rate(rate: u32, period: u8, sent: usize)
     requires { ⌜ (1 ≤ period) × (period ≤ 7) × (sent ≤ 10000) ⌝ }
 {
-    let bits = period as usize;
-    close_due(rate, drawn(rate, start(), 5, filled(bits, start(), 5)));
-    lengths(rate, bits, start());
-    lengths(rate, bits, drawn_state(rate, period - 1, 5));
+    close_due(rate, drawn(rate, start(), 5, filled(period, start(), 5)));
+    lengths(rate, period, start());
+    lengths(rate, period, drawn_state(rate, period - 1, 5));
     place_limits(rate, period);
     from_each_place(rate, period);
-    stream(rate, bits, sent);
+    stream(rate, period, sent);
 }
 
 pub(crate) fn all() {

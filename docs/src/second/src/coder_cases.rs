@@ -27,22 +27,15 @@ fn octet_and_close(rate: u32, state: Coder, output: usize) {
     write_close(rate, state, 1);
 }
 
-/// Nothing, one octet, the longest input, and one octet more; each with outputs of the right length and of a wrong one.
+/// Nothing, one octet and the longest input, each with outputs of the right length and of a wrong one; and one octet more.
 fn lengths(rate: u32, state: Coder) {
     let (one, most) = (filled(rate, state, 1), filled(rate, state, 2044));
-    for (octets, output) in [
-        (0, 0),
-        (0, 1),
-        (1, one),
-        (1, one + 1),
-        (1, one - 1),
-        (2044, most),
-        (2044, most - 1),
-        (2044, most + 1),
-        (2045, most),
-    ] {
+    for (octets, output) in
+        [(0, 0), (0, 1), (1, one), (1, one + 1), (1, one - 1), (2044, most), (2044, most - 1), (2044, most + 1)]
+    {
         call(rate, state, octets, output);
     }
+    fitting(rate, state, 2045);
 }
 
 /// A state that no call handed out, with any bits below the symbols held.
@@ -115,7 +108,7 @@ fn order() {
         (3, at(0, 3, 0, 255), 2045, 3),
         (5, at(0, 0, 8, 255), 2045, 3),
         (4, at(63, 5, 7, 255), 1, 0),
-        (4, at(63, 5, 7, 255), 2045, 2453),
+        (4, at(63, 5, 7, 255), 2045, 2454),
         (2, Coder::start(), 2045, 3),
         (2, at(63, 1, 7, 255), 2045, 3),
     ] {
