@@ -19,15 +19,15 @@ fn interleaved(symbols: u32, depth: u32) -> u32
     }
 }
 
-// Where a portion of so many octets ends, or the frame, if fewer are left.
-fn end_of(at: usize, octets: usize, frame: usize) -> usize
-    requires { ⌜ at ≤ frame ⌝ }
-    ensures { λ r. ⌜ (at ≤ r) × (r ≤ frame) ⌝ }
+// Where a portion of so many octets ends, or the whole, if fewer are left.
+pub(crate) fn end_of(at: usize, octets: usize, whole: usize) -> usize
+    requires { ⌜ at ≤ whole ⌝ }
+    ensures { λ r. ⌜ (at ≤ r) × (r ≤ whole) ⌝ }
 {
-    if octets < frame - at {
+    if octets < whole - at {
         at + octets
     } else {
-        frame
+        whole
     }
 }
 
