@@ -1,4 +1,4 @@
--- The conditions of acceptance for the whole: what receive makes of a transmitted block, and condition 1 of all ten calls.
+-- The conditions of acceptance for the whole: what receive makes of a transmitted block, and condition 1 of all eleven calls.
 use mathlib.Core.Path.{_≡_, refl, sym, ap, _∙_, subst}
 use mathlib.Core.Bool.{Bool}
 use mathlib.Core.Logic.{_≢_}
@@ -10,7 +10,7 @@ use lib.ListN.{length, drop, getD, replicate, length-drop, length-replicate, get
 use lib.Seq.{take-at, ext-getD}
 use Rattle.refusals.specs.Order.{Check, FirstOf}
 use Rattle.refusals.specs.Numbers.{verdictNumber}
-use Rattle.refusals.specs.Calls.{encodeOrder, portionOrder, closeOrder, decodeOrder, randomiseOrder, convolveOrder, markerOrder, searchOrder, transmitOrder, receiveParameters, receiveOrder}
+use Rattle.refusals.specs.Calls.{encodeOrder, portionOrder, closeOrder, decodeOrder, randomiseOrder, convolveOrder, coderCloseOrder, markerOrder, searchOrder, transmitOrder, receiveParameters, receiveOrder}
 use Rattle.refusals.specs.declared.Verdict.{Verdict}
 use Rattle.refusals.specs.declared.Verdict.the-variants.{Accepted}
 use Rattle.refusals.proofs.Orders.{Clear, clear-accepted}
@@ -22,7 +22,9 @@ use Rattle.marker.specs.Outcome.{testedNumber, searchedNumber, TestOutcome, Sea
 use Rattle.marker.specs.declared.Tested.{Tested}
 use Rattle.marker.specs.declared.Searched.{Searched}
 use Rattle.randomiser.specs.Outcome.{RandomiseOutcome}
-use Rattle.convolution.specs.Outcome.{convolvedNumber, ConvolveOutcome}
+use Rattle.convolution.specs.Outcome as coder
+use Rattle.convolution.specs.declared.State.{State}
+use Rattle.convolution.specs.declared.Ran.{Ran}
 use Rattle.convolution.specs.declared.Convolved.{Convolved}
 use Rattle.reed_solomon.specs.declared.Decoded.{Decoded}
 use Rattle.reed_solomon.specs.declared.Decoded.the-variants as decoded
@@ -189,7 +191,7 @@ module _ (e i q : ℕ) (flag : Bool) (frame before : List ℕ) (v : Verdict) (ma
 abbrev pub FirstAndKept : List Check → ℕ → Type 0 → Type 0
 FirstAndKept order number kept = FirstOf order number × (number ≢ 0 → kept)
 
--- The eight calls; the marker test and the search are lent their octets to be read only, and so have nothing to keep.
+-- The eleven calls; the marker test and the search are lent their octets to be read only, and so have nothing to keep.
 pub record ConditionOne : Type 0 where
   pub encode : (e i q : ℕ) (frame before : List ℕ) (answer : Verdict) (after : List ℕ) → EncodeOutcome e i q frame before answer after
       → FirstAndKept (encodeOrder e i q (length frame) (length before)) (verdictNumber answer) (after ≡ before)
@@ -203,8 +205,11 @@ pub record ConditionOne : Type 0 where
       → FirstAndKept (decodeOrder e i q s (length block) (length before) (SomeLost e i q s block)) (decodedNumber answer) (after ≡ before)
   pub randomise : (before : List ℕ) (answer : Verdict) (after : List ℕ) → RandomiseOutcome before answer after
       → FirstAndKept (randomiseOrder (length before)) (verdictNumber answer) (after ≡ before)
-  pub convolve : (rate : ℕ) (octets before : List ℕ) (answer : Convolved) (after : List ℕ) → ConvolveOutcome rate octets before answer after
-      → FirstAndKept (convolveOrder rate (length octets) (length before)) (convolvedNumber answer) (after ≡ before)
+  pub convolve : (rate : ℕ) (state : State) (octets before : List ℕ) (ran : Ran) (after : List ℕ) → coder.ConvolveOutcome rate state octets before ran after
+      → FirstAndKept (convolveOrder rate (state .register) (state .place) (state .holds) (length octets) (length before)) (coder.convolvedNumber (ran .answer))
+      ((ran .state ≡ state) × (after ≡ before))
+  pub coderClose : (rate : ℕ) (state : State) (before : List ℕ) (answer : Convolved) (after : List ℕ) → coder.CloseOutcome rate state before answer after
+      → FirstAndKept (coderCloseOrder rate (state .register) (state .place) (state .holds) (length before)) (coder.convolvedNumber answer) (after ≡ before)
   pub test : (t : ℕ) (octets : List ℕ) (answer : Tested) → TestOutcome t octets answer
       → FirstAndKept (markerOrder t (length octets) (wrongBits octets 0)) (testedNumber answer) Unit
   pub search : (t : ℕ) (stream : List ℕ) (start budget : ℕ) (answer : Searched) → SearchOutcome t stream start budget answer
@@ -223,7 +228,8 @@ condition-one =
       close = λ e i q state before answer next after O. (O .number, O .refused);
       decode = λ e i q s block before answer counts total after O. (O .number, λ n. O .refused n .0);
       randomise = λ before answer after O. (O .number, O .refused);
-      convolve = λ rate octets before answer after O. (O .number, O .refused);
+      convolve = λ rate state octets before ran after O. (O .number, O .refused);
+      coderClose = λ rate state before answer after O. (O .number, O .refused);
       test = λ t octets answer O. (O .number, λ n. tt);
       search = λ t stream start budget answer O. (O .number, λ n. tt);
       transmit = λ e i q flag frame before answer after O. (O .number, O .refused);

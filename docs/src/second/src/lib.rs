@@ -3,6 +3,7 @@
 
 pub mod blocks;
 pub mod chain;
+pub mod coder_cases;
 pub mod compare;
 pub mod convolution;
 pub mod data;
