@@ -243,11 +243,3 @@ pub fn convolve_alone(rate: u32, data: &[u8], before: &[u8]) -> (Result<u32, Ref
     }
     (answer, symbols)
 }
-
-/// What a stream of any length gives from a coder's state on, up to its close: one run of the second program over all of it.
-pub fn coded_whole(coder: &Convolver, stream: &[u8]) -> Vec<u8> {
-    let CoderState { register, place, holds, held } = coder.state();
-    let input = [&bits(&[register])[2..], &bits(stream)].concat();
-    let symbols = second::convolution::symbols(coder.rate(), place, &input);
-    packed(&[&bits(&[held])[..holds.into()], &symbols].concat())
-}

@@ -4,6 +4,7 @@ use crate::both;
 use crate::draw::Draw;
 use crate::tally::Tally;
 use ironsimmer::{symbols_len, CoderState, Convolver, Refusal};
+use second::convolution::packed_whole;
 
 const LONGEST: usize = 2044;
 
@@ -108,13 +109,12 @@ fn every_close() {
     tallies.closes.demand("convolve_close, every octet", &[0], 10240);
 }
 
-/// Codes a stream from a state on in calls of these sizes, the last as long as what is left. The state is stored and taken up after each
-/// of them. All that is written, the close's octet too, must be what one run of the second program gives over the whole stream.
-fn cut(draw: &Draw, tallies: &mut Tallies, rate: u32, state: CoderState, len: usize, size: impl Fn() -> usize) {
+/// Codes a stream in calls of these sizes, the last as long as what is left. The state is stored and taken up after each of them. All that
+/// is written, the close's octet too, must be what one run of the second program gives over the whole stream.
+fn cut(draw: &Draw, tallies: &mut Tallies, rate: u32, len: usize, size: impl Fn() -> usize) {
     let stream = draw.octets(len);
-    let mut coder = Convolver::from_state(rate, state);
-    let whole = both::coded_whole(&coder, &stream);
-    let (mut joined, mut symbols, mut place) = (vec![], usize::from(state.holds), 0);
+    let mut coder = Convolver::new(rate);
+    let (mut joined, mut symbols, mut place) = (vec![], 0, 0);
     while place < len {
         let data = &stream[place..][..size().min(len - place)];
         let before = draw.octets(coder.symbols_len(data.len()).unwrap());
@@ -133,40 +133,26 @@ fn cut(draw: &Draw, tallies: &mut Tallies, rate: u32, state: CoderState, len: us
     tallies.closes.count(&answer);
     assert_eq!(answer, Ok((symbols - 8 * joined.len()) as u32));
     joined.extend(last);
-    assert_eq!(joined, whole, "rate {rate}, {state:?}, {len} octets");
+    assert_eq!(joined, packed_whole(rate, &stream), "rate {rate}, {len} octets");
 }
 
-/// Streams longer than a call may be, from the start and from drawn states, in sizes drawn for each call, none, 1 and 2,044 among them.
+/// Streams longer than a call may be, in sizes drawn for each call, none, 1 and 2,044 among them, and in one size for all.
 #[test]
 fn cut_anywhere() {
     let draw = Draw::new(54);
     let mut tallies = Tallies::default();
     for rate in 1..=5 {
         for most in [1, 7, 100, LONGEST, LONGEST, LONGEST, LONGEST, LONGEST] {
-            for state in [CoderState::default(), any_state(&draw, rate)] {
-                let len = LONGEST + 1 + draw.upto(4000);
-                let size = || draw.one_of(&[0, 1, most, draw.upto(most)]);
-                cut(&draw, &mut tallies, rate, state, len, size);
-            }
+            let len = LONGEST + 1 + draw.upto(4000);
+            cut(&draw, &mut tallies, rate, len, || draw.one_of(&[0, 1, most, draw.upto(most)]));
+        }
+        for size in [1, 2, 3, 5, 7, 16, 255, 2043, LONGEST] {
+            let len = LONGEST + 1 + draw.upto(4000);
+            cut(&draw, &mut tallies, rate, len, || size);
         }
     }
     tallies.calls.demand("convolve, cut anywhere", &[0], 50000);
-    tallies.closes.demand("convolve_close, cut anywhere", &[0], 80);
-}
-
-/// One size for all calls, single octets among them.
-#[test]
-fn cut_evenly() {
-    let draw = Draw::new(55);
-    let mut tallies = Tallies::default();
-    for rate in 1..=5 {
-        for size in [1, 2, 3, 5, 7, 16, 255, 2043, LONGEST] {
-            let len = LONGEST + 1 + draw.upto(2500);
-            cut(&draw, &mut tallies, rate, CoderState::default(), len, || size);
-        }
-    }
-    tallies.calls.demand("convolve, cut evenly", &[0], 20000);
-    tallies.closes.demand("convolve_close, cut evenly", &[0], 45);
+    tallies.closes.demand("convolve_close, cut anywhere", &[0], 85);
 }
 
 /// A stream whose rate changes at drawn places: the state that one rate left is taken by any rate whose period its place is below, and by
@@ -321,10 +307,11 @@ fn limits_by_itself() {
 /// (G), (H) and (I), as document 01 prints them: a call from the start, and its close.
 #[test]
 fn as_printed() {
-    let cases: [(u32, u8, u32, &[u8], &[u8]); 3] =
-        [(1, 0x00, 16, &[0x55, 0x55], &[]), (1, 0x80, 16, &[0xBA, 0x49], &[]), (3, 0x80, 11, &[0xDC], &[0xC0])];
-    for (rate, octet, count, filled, last) in cases {
+    for (rate, octet, count, printed) in
+        [(1, 0x00, 16, [0x55, 0x55]), (1, 0x80, 16, [0xBA, 0x49]), (3, 0x80, 11, [0xDC, 0xC0])]
+    {
         let mut coder = Convolver::new(rate);
+        let (filled, last) = printed.split_at(coder.symbols_len(1).unwrap());
         assert_eq!(both::convolve(&mut coder, &[octet], &vec![0; filled.len()]), (Ok(count), filled.to_vec()));
         assert_eq!(both::convolve_close(&mut coder, &vec![0; last.len()]), (Ok(count % 8), last.to_vec()));
     }
