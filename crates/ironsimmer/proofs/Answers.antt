@@ -22,15 +22,12 @@ use Rattle.marker.specs.declared.Tested.the-variants as tested
 use Rattle.marker.specs.declared.Searched.{Searched}
 use Rattle.marker.specs.declared.Searched.the-variants as searched
 use Rattle.marker.specs.Outcome.{searchedNumber, TestOutcome}
-use Rattle.convolution.specs.declared.Convolved.{Convolved}
-use Rattle.convolution.specs.declared.Convolved.the-variants as convolved
-use Rattle.convolution.specs.Outcome.{ConvolveOutcome}
 use Rattle.chain.specs.declared.Stage.{Stage}
 use Rattle.chain.specs.declared.Stage.the-variants as stage
 use Rattle.chain.specs.declared.Received.{Received}
 use Rattle.chain.specs.declared.Received.the-variants as received
 use Rattle.chain.specs.Outcome.{ReceiveOutcome, receivedNumber, receivedValue}
-use Rattle.ironsimmer.specs.Exported.{code, searchReport, Lent, DecodingCall, DecodeCall, MarkerCall, Reported, ConvolveCall}
+use Rattle.ironsimmer.specs.Exported.{code, searchReport, Lent, DecodingCall, DecodeCall, MarkerCall, Reported}
 
 -- ---- one number for an answer
 
@@ -92,27 +89,6 @@ module _ (tolerance : ℕ) (octets : List ℕ) (before : ℕ) {answer : Tested} 
         coded = λ z. c;
         accepted = λ z. absurd (marker-nonzero r z);
         lent = lent-refused (markerNumber r) (markerValue r) before (marker-nonzero r);
-      }
-
-module _ (rate : ℕ) (octets before : List ℕ) (counted : ℕ) (after : List ℕ) {answer : Convolved} where
-  pub convolve-done : (count : ℕ) → answer ≡ convolved.Done count → ConvolveOutcome rate octets before answer after
-      → ConvolveCall rate octets before counted 0 after count
-  convolve-done count e o =
-      record {
-        convolved = convolved.Done count;
-        outcome = subst (λ (a : Convolved). ConvolveOutcome rate octets before a after) e o;
-        coded = refl;
-        lent = lent-accepted 0 count counted count refl refl;
-      }
-
-  pub convolve-refused : (p : Parameter) (n : ℕ) → answer ≡ convolved.Refused p → ConvolveOutcome rate octets before answer after → n ≡ parameterNumber p
-      → ConvolveCall rate octets before counted n after counted
-  convolve-refused p n e o c =
-      record {
-        convolved = convolved.Refused p;
-        outcome = subst (λ (a : Convolved). ConvolveOutcome rate octets before a after) e o;
-        coded = c;
-        lent = lent-refused (parameterNumber p) 0 counted (parameter-nonzero p);
       }
 
 -- Decode and receive, over what is permitted of their answers.

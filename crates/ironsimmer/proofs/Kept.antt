@@ -10,7 +10,8 @@ use Rattle.reed_solomon.specs.Outcome.{decodedNumber, decodedValue}
 use Rattle.chain.specs.declared.Received.{Received}
 use Rattle.chain.specs.declared.Received.the-variants as received
 use Rattle.chain.specs.Outcome.{receivedNumber, receivedValue}
-use Rattle.ironsimmer.specs.Exported.{code, EncodeCall, PortionCall, CloseCall, RandomiseCall, TransmitCall, DecodeCall, ReceiveCall, MarkerCall, SearchCall, ConvolveCall}
+use Rattle.convolution.specs.Outcome.{convolvedNumber}
+use Rattle.ironsimmer.specs.Exported.{code, EncodeCall, PortionCall, CloseCall, RandomiseCall, TransmitCall, DecodeCall, ReceiveCall, MarkerCall, SearchCall, ConvolveCall, ConvolveCloseCall}
 use Rattle.ironsimmer.proofs.Answers.{word-nonzero, stage-nonzero}
 
 -- An answer other than 0 is one of a refusal.
@@ -22,7 +23,7 @@ received-refused : (a : Received) → code (receivedNumber a) (receivedValue a) 
 received-refused received.Delivered n = n
 received-refused (received.Refused s) n = stage-nonzero s
 
--- The ten calls that can refuse: an answer other than 0 leaves every buffer, count, report and state as it was.
+-- The eleven calls that can refuse: an answer other than 0 leaves every buffer, count, report and state as it was.
 pub record KeptOnARefusal : Type 0 where
   pub encode : (e i q : ℕ) (frame before : List ℕ) (answer : ℕ) (after : List ℕ) → EncodeCall e i q frame before answer after → answer ≢ 0 → after ≡ before
   pub portion : (e i q : ℕ) (numbers : List ℕ) (rows : List (List ℕ)) (portion before : List ℕ) (answer : ℕ) (numbers′ : List ℕ) (rows′ : List (List ℕ)) (after : List ℕ)
@@ -35,8 +36,10 @@ pub record KeptOnARefusal : Type 0 where
   pub marker : (tolerance : ℕ) (octets : List ℕ) (before answer after : ℕ) → MarkerCall tolerance octets before answer after → answer ≢ 0 → after ≡ before
   pub search : (tolerance : ℕ) (stream : List ℕ) (start budget : ℕ) (before : List ℕ) (answer : ℕ) (after : List ℕ)
       → SearchCall tolerance stream start budget before answer after → answer ≢ 0 → after ≡ before
-  pub convolve : (rate : ℕ) (octets before : List ℕ) (counted answer : ℕ) (after : List ℕ) (count : ℕ) → ConvolveCall rate octets before counted answer after count
-      → answer ≢ 0 → (after ≡ before) × (count ≡ counted)
+  pub convolve : (rate : ℕ) (octets input before : List ℕ) (counted answer : ℕ) (octets′ after : List ℕ) (count : ℕ)
+      → ConvolveCall rate octets input before counted answer octets′ after count → answer ≢ 0 → (octets′ ≡ octets) × (after ≡ before) × (count ≡ counted)
+  pub convolve-close : (rate : ℕ) (octets before : List ℕ) (counted answer : ℕ) (after : List ℕ) (count : ℕ)
+      → ConvolveCloseCall rate octets before counted answer after count → answer ≢ 0 → (after ≡ before) × (count ≡ counted)
   pub transmit : (e i q randomised : ℕ) (frame before : List ℕ) (answer : ℕ) (after : List ℕ) → TransmitCall e i q randomised frame before answer after
       → answer ≢ 0 → after ≡ before
   pub receive : (e i q s t randomised : ℕ) (marked before reported : List ℕ) (answer : ℕ) (after report : List ℕ)
@@ -55,7 +58,11 @@ kept-on-a-refusal =
       randomise = λ before answer after C n. C .outcome .refused (λ z. n (C .coded ∙ z));
       marker = λ tolerance octets before answer after C n. C .lent .refused (λ z. n (C .accepted z));
       search = λ tolerance stream start budget before answer after C n. C .reported .lent .refused (λ z. n (C .reported .coded ∙ z));
-      convolve = λ rate octets before counted answer after count C n. (C .outcome .refused (λ z. n (C .coded ∙ z)), C .lent .refused (λ z. n (C .coded ∙ z)));
+      convolve = λ rate octets input before counted answer octets′ after count C n.
+          let refuses : convolvedNumber (C .ran .answer) ≢ 0 = λ z. n (C .put .reported .coded ∙ z) in
+          (C .put .held .refused refuses, C .outcome .refused refuses .1, C .put .reported .lent .refused refuses);
+      convolve-close = λ rate octets before counted answer after count C n.
+          let refuses : convolvedNumber (C .convolved) ≢ 0 = λ z. n (C .put .coded ∙ z) in (C .outcome .refused refuses, C .put .lent .refused refuses);
       transmit = λ e i q randomised frame before answer after C n. C .outcome .refused (λ z. n (C .coded ∙ z));
       receive = λ e i q s t randomised marked before reported answer after report C n.
           let refuses : receivedNumber (C .answered) ≢ 0 = received-refused (C .answered) (λ z. n (C .coded ∙ z)) in (C .outcome .refused refuses .0, C .lent .refused refuses);

@@ -15,11 +15,13 @@ use Rattle.randomiser.specs.Outcome.{NextOutcome, RandomiseOutcome}
 use Rattle.randomiser.proofs.Settled.{next-bits-settled, randomise-settled}
 use Rattle.marker.specs.Outcome.{testedNumber, testedValue, searchedNumber}
 use Rattle.marker.proofs.Settled.{test-settled, search-settled}
+use Rattle.convolution.specs.declared.Ran.{Ran}
+use Rattle.convolution.specs.declared.Convolved.{Convolved}
 use Rattle.convolution.specs.Outcome.{convolvedNumber, convolvedCount}
-use Rattle.convolution.proofs.Settled.{convolve-settled}
+use Rattle.convolution.proofs.Settled as coder
 use Rattle.chain.specs.Outcome.{TransmitOutcome, ReceiveOutcome, receivedNumber, receivedValue}
 use Rattle.chain.proofs.Settled.{transmit-settled, receive-settled}
-use Rattle.ironsimmer.specs.Exported.{code, flag, Lent, searchReport, stateOf, stateNumbers, VerdictCall, EncodeCall, PortioningCall, PortionCall, CloseCall, RandomiseCall, TransmitCall, DecodingCall, DecodeCall, ReceiveCall, MarkerCall, SearchCall, ConvolveCall}
+use Rattle.ironsimmer.specs.Exported.{code, flag, Lent, searchReport, stateOf, stateNumbers, coderOf, coderOctets, CountPut, VerdictCall, EncodeCall, PortioningCall, PortionCall, CloseCall, RandomiseCall, TransmitCall, DecodingCall, DecodeCall, ReceiveCall, MarkerCall, SearchCall, ConvolveCall, ConvolveCloseCall}
 
 -- ---- one law for each kind of call
 
@@ -61,6 +63,12 @@ decoding-call-settled numberOf valueOf Permits settled before m n a b r t x y =
       same .3,
       lent-settled _ _ _ _ before r t (ap numberOf (same .0)) (ap₂ (λ (counts : List ℕ) (total : ℕ). counts ++ (total ∷ [])) (same .1) (same .2)) (x .lent) (y .lent),
     )
+
+count-put-settled : (x y : Convolved) (counted m n c d : ℕ) → x ≡ y → CountPut x counted m c → CountPut y counted n d → (m ≡ n) × (c ≡ d)
+count-put-settled x y counted m n c d same p q = (
+  p .coded ∙ ap convolvedNumber same ∙ sym (q .coded),
+  lent-settled _ _ _ _ counted c d (ap convolvedNumber same) (ap convolvedCount same) (p .lent) (q .lent),
+)
 
 -- ---- the calls
 
@@ -105,14 +113,23 @@ module _ (m n : ℕ) (a b : List ℕ) where
         lent-settled _ _ _ _ before a b (ap searchedNumber same) (ap searchReport same) (x .reported .lent) (y .reported .lent),
       )
 
-  pub ironsimmer-convolve-settled : (rate : ℕ) (octets before : List ℕ) (counted c d : ℕ) → ConvolveCall rate octets before counted m a c
-      → ConvolveCall rate octets before counted n b d → (m ≡ n) × (a ≡ b) × (c ≡ d)
-  ironsimmer-convolve-settled rate octets before counted c d x y =
-      let same = convolve-settled rate octets before a b (x .convolved) (y .convolved) (x .outcome) (y .outcome) in (
-        x .coded ∙ ap convolvedNumber (same .0) ∙ sym (y .coded),
+  pub ironsimmer-convolve-settled : (rate : ℕ) (octets input before : List ℕ) (counted : ℕ) (j k : List ℕ) (c d : ℕ) → ConvolveCall rate octets input before counted m j a c
+      → ConvolveCall rate octets input before counted n k b d → (m ≡ n) × (j ≡ k) × (a ≡ b) × (c ≡ d)
+  ironsimmer-convolve-settled rate octets input before counted j k c d x y =
+      let same = coder.convolve-settled rate (coderOf octets) before a b input (x .ran) (y .ran) (x .outcome) (y .outcome) in
+      let answers : x .ran .answer ≡ y .ran .answer = ap (λ (ran : Ran). ran .answer) (same .0) in
+      let counts = count-put-settled _ _ counted m n c d answers (x .put .reported) (y .put .reported) in (
+        counts .0,
+        lent-settled _ _ _ _ octets j k (ap convolvedNumber answers) (ap (λ (ran : Ran). coderOctets (ran .state)) (same .0)) (x .put .held) (y .put .held),
         same .1,
-        lent-settled _ _ _ _ counted c d (ap convolvedNumber (same .0)) (ap convolvedCount (same .0)) (x .lent) (y .lent),
+        counts .1,
       )
+
+  pub ironsimmer-convolve-close-settled : (rate : ℕ) (octets before : List ℕ) (counted c d : ℕ) → ConvolveCloseCall rate octets before counted m a c
+      → ConvolveCloseCall rate octets before counted n b d → (m ≡ n) × (a ≡ b) × (c ≡ d)
+  ironsimmer-convolve-close-settled rate octets before counted c d x y =
+      let same = coder.close-settled rate (coderOf octets) before a b (x .convolved) (y .convolved) (x .outcome) (y .outcome) in
+      let counts = count-put-settled _ _ counted m n c d (same .0) (x .put) (y .put) in (counts .0, same .1, counts .1)
 
 pub ironsimmer-sequence-settled : (before o a p b : ℕ) → NextOutcome before o a → NextOutcome before p b → (o ≡ p) × (a ≡ b)
 ironsimmer-sequence-settled = next-bits-settled

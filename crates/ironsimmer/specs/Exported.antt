@@ -1,4 +1,5 @@
--- What the exported calls answer and leave, by the outcomes of the calls beneath (document 01, "Refusal numbers and the order of checks"; document 02, (ii)).
+-- What the exported calls answer and leave, by the outcomes of the calls beneath (document 01, "Refusal numbers and the order of checks"; document 02,
+-- (ii) and (iii)).
 use mathlib.Core.Path.{_≡_}
 use mathlib.Core.Bool.{Bool, true, false, not}
 use mathlib.Core.Logic.{_≢_}
@@ -16,8 +17,10 @@ use Rattle.marker.specs.declared.Tested.{Tested}
 use Rattle.marker.specs.declared.Searched.{Searched}
 use Rattle.marker.specs.declared.Searched.the-variants.{Found, Absent, Spent, Refused}
 use Rattle.marker.specs.Outcome.{testedNumber, testedValue, searchedNumber, TestOutcome, SearchOutcome}
+use Rattle.convolution.specs.declared.State.{State}
 use Rattle.convolution.specs.declared.Convolved.{Convolved}
-use Rattle.convolution.specs.Outcome.{ConvolveOutcome, convolvedNumber, convolvedCount}
+use Rattle.convolution.specs.declared.Ran.{Ran}
+use Rattle.convolution.specs.Outcome as coder
 use Rattle.chain.specs.Outcome.{TransmitOutcome, ReceiveOutcome, receivedNumber, receivedValue}
 
 -- An answer in one number: the refusal's number, 0 if accepted, in the lowest eight bits, and the refusal's value above them.
@@ -125,9 +128,31 @@ pub record SearchCall (tolerance : ℕ) (stream : List ℕ) (start budget : ℕ)
   pub outcome : SearchOutcome tolerance stream start budget searched
   pub reported : Reported searched before answer after
 
--- Convolve: the number of its answer, and if it was accepted the number of symbols.
-pub record ConvolveCall (rate : ℕ) (octets before : List ℕ) (counted answer : ℕ) (after : List ℕ) (count : ℕ) : Type 0 where
+-- The coder's state as C lends it: four octets, its register, its place in the period, how many symbols it holds, and those symbols.
+abbrev pub coderOf : List ℕ → State
+coderOf octets = record { register = getD octets 0 0; place = getD octets 1 0; holds = getD octets 2 0; held = getD octets 3 0 }
+
+abbrev pub coderOctets : State → List ℕ
+coderOctets state = state .register ∷ state .place ∷ state .holds ∷ state .held ∷ []
+
+-- A count of symbols that is put in place of the one that was lent, by the number of the answer that it came with.
+pub record CountPut (answered : Convolved) (counted answer count : ℕ) : Type 0 where
+  pub coded : answer ≡ coder.convolvedNumber answered
+  pub lent : Lent (coder.convolvedNumber answered) (coder.convolvedCount answered) counted count
+
+-- So with the state that came with them.
+pub record RanPut (ran : Ran) (octets : List ℕ) (counted answer : ℕ) (octets′ : List ℕ) (count : ℕ) : Type 0 where
+  pub reported : CountPut (ran .answer) counted answer count
+  pub held : Lent (coder.convolvedNumber (ran .answer)) (coderOctets (ran .state)) octets octets′
+
+-- Convolve: an answer, a state and a buffer that the outcome permits, the state and the number of symbols put in place.
+pub record ConvolveCall (rate : ℕ) (octets «data» before : List ℕ) (counted answer : ℕ) (octets′ after : List ℕ) (count : ℕ) : Type 0 where
+  pub ran : Ran
+  pub outcome : coder.ConvolveOutcome rate (coderOf octets) «data» before ran after
+  pub put : RanPut ran octets counted answer octets′ count
+
+-- Its close: an answer and a buffer that the outcome permits, and the number of symbols put in place; the state is read only.
+pub record ConvolveCloseCall (rate : ℕ) (octets before : List ℕ) (counted answer : ℕ) (after : List ℕ) (count : ℕ) : Type 0 where
   pub convolved : Convolved
-  pub outcome : ConvolveOutcome rate octets before convolved after
-  pub coded : answer ≡ convolvedNumber convolved
-  pub lent : Lent (convolvedNumber convolved) (convolvedCount convolved) counted count
+  pub outcome : coder.CloseOutcome rate (coderOf octets) before convolved after
+  pub put : CountPut convolved counted answer count

@@ -1,13 +1,13 @@
 // The C interface: each call hands its arguments to the call beneath and gives that call's answer as one number, which has the refusal's
 // number in its lowest eight bits, 0 if accepted, and above them the refusal's value. include/ironsimmer.h says the same to C.
+mod coder;
 mod codes;
 mod portions;
 mod reports;
 
 ghost use Rattle.randomiser.specs.Outcome.{NextOutcome};
-ghost use Rattle.ironsimmer.specs.Exported.{EncodeCall, PortionCall, CloseCall, DecodeCall, RandomiseCall, MarkerCall, SearchCall, ConvolveCall, TransmitCall, ReceiveCall};
+ghost use Rattle.ironsimmer.specs.Exported.{EncodeCall, PortionCall, CloseCall, DecodeCall, RandomiseCall, MarkerCall, SearchCall, ConvolveCall, ConvolveCloseCall, TransmitCall, ReceiveCall};
 use chain::Received;
-use convolution::Convolved;
 use marker::Tested;
 use reed_solomon::Decoded;
 
@@ -128,19 +128,32 @@ pub extern "C" fn ironsimmer_search(
 #[no_mangle]
 pub extern "C" fn ironsimmer_convolve(
     rate: u32,
+    state: &mut [u8; 4],
     data: &[u8],
     symbols: &mut [u8],
     count: &mut u32,
 ) -> u64
-    ensures { λ r. ⌜ ConvolveCall rate (now («data» .entry)) (now (symbols .entry)) (now (count .entry)) r (now (symbols .exit)) (now (count .exit)) ⌝ }
+    ensures { λ r. ⌜ ConvolveCall rate (now (state .entry)) (now («data» .entry)) (now (symbols .entry)) (now (count .entry)) r (now (state .exit)) (now (symbols .exit)) (now (count .exit)) ⌝ }
 {
-    match convolution::convolve(rate, data, symbols) {
-        Convolved::Done(number) => {
-            *count = number;
-            0
-        }
-        Convolved::Refused(parameter) => refusals::parameter_number(parameter),
-    }
+    let before = coder::state_of(state);
+    coder::put(
+        convolution::convolve(rate, before, data, symbols),
+        state,
+        count,
+    )
+}
+
+#[no_mangle]
+pub extern "C" fn ironsimmer_convolve_close(
+    rate: u32,
+    state: &[u8; 4],
+    symbols: &mut [u8],
+    count: &mut u32,
+) -> u64
+    ensures { λ r. ⌜ ConvolveCloseCall rate (now (state .entry)) (now (symbols .entry)) (now (count .entry)) r (now (symbols .exit)) (now (count .exit)) ⌝ }
+{
+    let held = coder::state_of(state);
+    coder::put_count(convolution::close(rate, held, symbols), count)
 }
 
 #[no_mangle]
