@@ -251,8 +251,8 @@ fn limits() {
             try_state(CoderState { holds, ..any_state(&draw, rate) });
         }
     }
-    tallies.calls.demand("convolve, limits", &[0, 5, 6, 7], 400);
-    tallies.closes.demand("convolve_close, limits", &[0, 6, 7], 60);
+    tallies.calls.demand("convolve, limits", &[0, 5, 6, 7], 300);
+    tallies.closes.demand("convolve_close, limits", &[0, 6, 7], 45);
 }
 
 /// Illegal rates and states and wrong lengths, one and several at a time: the first in the order is answered.
