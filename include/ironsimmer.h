@@ -31,7 +31,7 @@ enum ironsimmer_refusal {
     IRONSIMMER_ALLOWANCE = 4,     /* s is over E */
     IRONSIMMER_INPUT_LENGTH = 5,  /* what is read has not the length required, or is over the limit */
     IRONSIMMER_OUTPUT_LENGTH = 6, /* what is written has not the length required */
-    IRONSIMMER_RATE = 7,          /* the rate is none of 1 to 5 */
+    IRONSIMMER_RATE = 7,          /* the rate is none of 1 to 5, or the coder cannot be in the state at that rate */
     IRONSIMMER_TOLERANCE = 8,     /* the tolerance is over 3 */
     IRONSIMMER_MARKER = 9,        /* more wrong bits in the marker than the tolerance; the value is their number */
     IRONSIMMER_WORD = 10,         /* a word has no codeword with zero fill within the allowance; the value is the lowest such word */
@@ -122,12 +122,35 @@ uint64_t ironsimmer_search(uint32_t tolerance, const uint8_t *stream, size_t str
                            uint64_t start, uint64_t budget, uint64_t found[4]);
 
 /*
- * Convolutional symbols of at most 2,044 octets at rates 1 to 5 (1/2, 2/3, 3/4, 5/6, 7/8), packed top bit first, the last octet filled
- * with zeros. Of n octets there are 8n + ceil(8n / p) symbols, p = 1, 2, 3, 5, 7, in so many octets as hold them; count is their number.
- * Refuses by 7, 5, 6, and then leaves symbols and count as they were.
+ * Codes the next octets of a stream, at most 2,044 in one call, at rates 1 to 5 (1/2, 2/3, 3/4, 5/6, 7/8). A whole stream is coded by
+ * any number of calls at one rate, the first from a state of zeros, and then ironsimmer_convolve_close. However the stream is cut, and
+ * however long it is, all that they write, joined, is its symbols, packed top bit first, the last octet filled with zeros.
+ *
+ * The state between the calls is the caller's, four octets: the register, which is the last six bits of the stream so far, the newest
+ * lowest; the place in the rate's puncture period, whose bits are p = 1, 2, 3, 5, 7; how many symbols are held, 0 to 7, because they do
+ * not yet fill an octet; and the held symbols, top bit first. The bits below these are ignored, and an accepted call leaves them zero.
+ * All zero is the start of a stream. A state may be used at another rate if its place is below that rate's p.
+ *
+ * Of n octets from place c on there are 8n + ceil((c + 8n) / p) - ceil(c / p) symbols; count is their number, without those held
+ * before. The held symbols come first, then these: symbols gets the octets that they fill, so many as all of them divided by 8, rounded
+ * down, and the rest, fewer than eight, is held.
+ *
+ * 7 is due if the rate is none of 1 to 5, the register over 63, the place p or more, or the number of held symbols over 7. Any state is
+ * judged, also one that no call has left.
+ * Refuses by 7, 5, 6, and then leaves state, symbols and count as they were.
  */
-uint64_t ironsimmer_convolve(uint32_t rate, const uint8_t *data, size_t data_len,
+uint64_t ironsimmer_convolve(uint32_t rate, uint8_t state[4], const uint8_t *data, size_t data_len,
                              uint8_t *symbols, size_t symbols_len, uint32_t *count);
+
+/*
+ * Ends a stream that ironsimmer_convolve coded: symbols, one octet, gets the held symbols, top bit first, and zeros below them; if none
+ * are held, symbols has no octet and nothing is written. count is the number of held symbols, without the zeros. The state is as the
+ * last call left it, and is only read: nothing in it says that the stream has ended. The next stream starts from zeros again.
+ *
+ * 7 is due as in ironsimmer_convolve.
+ * Refuses by 7, 6, and then leaves symbols and count as they were.
+ */
+uint64_t ironsimmer_convolve_close(uint32_t rate, const uint8_t state[4], uint8_t *symbols, size_t symbols_len, uint32_t *count);
 
 /*
  * Codes a frame as encode does, randomises the block unless `randomised` is 0, and puts the marker in front: (255 - Q) I + 4 octets.

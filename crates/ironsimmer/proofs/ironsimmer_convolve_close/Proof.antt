@@ -17,7 +17,7 @@ same-length : tie.Need-same-length
 same-length c = search needs
 
 returns : tie.Need-returns
-returns c = convolve-close-called _ _ _ (c .before .before .before .before .before .before .state-of .ensures) _ _ _ _ _ _ (c .put-count .ensures) (c .before .before .before .before .close .ensures)
+returns c = convolve-close-called (c .before .before .before .before .before .before .before .before .args .rate) _ _ (c .before .before .before .before .before .before .state-of .ensures) _ _ _ _ _ _ (c .put-count .ensures) (c .before .before .before .before .close .ensures)
 
 pub ironsimmer-convolve-close-spec : {M : Type 1} → statement M
 ironsimmer-convolve-close-spec =
