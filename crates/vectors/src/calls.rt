@@ -1,7 +1,9 @@
-// Encode, in one call and in portions, decode, transmit and receive, each with the line that its outcome makes.
+// Encode, in one call and in portions, decode, transmit, receive and convolve, each with the line that its outcome makes.
 use crate::print;
 use chain::Received;
 use chain::Stage;
+use convolution::Convolved;
+use convolution::State;
 use reed_solomon::Decoded;
 use reed_solomon::Portioned;
 use reed_solomon::Progress;
@@ -197,4 +199,43 @@ pub(crate) fn close(e: u32, depth: u32, fill: u32, state: Progress, checks: &mut
     print::buffer(checks);
     print::end();
     after
+}
+
+fn convolved(answer: Convolved) {
+    match answer {
+        Convolved::Done(count) => {
+            print::number(0);
+            print::number(count as u64);
+        }
+        Convolved::Refused(p) => print::number(refusals::parameter_number(p)),
+    }
+}
+
+fn coder(state: State) {
+    print::number(state.register as u64);
+    print::number(state.place as u64);
+    print::number(state.holds as u64);
+    print::number(state.held as u64);
+}
+
+pub(crate) fn convolve(rate: u32, state: State, octets: &[u8], symbols: &mut [u8]) -> State {
+    print::text(b"convolve");
+    print::number(rate as u64);
+    let ran = convolution::convolve(rate, state, octets, &mut *symbols);
+    let answer = ran.answer;
+    let after = ran.state;
+    convolved(answer);
+    coder(after);
+    print::buffer(symbols);
+    print::end();
+    after
+}
+
+pub(crate) fn convolve_close(rate: u32, state: State, symbols: &mut [u8]) {
+    print::text(b"convolve-close");
+    print::number(rate as u64);
+    let answer = convolution::close(rate, state, &mut *symbols);
+    convolved(answer);
+    print::buffer(symbols);
+    print::end();
 }

@@ -20,7 +20,7 @@ fn interleaved(symbols: u32, depth: u32) -> u32
 }
 
 // Where a portion of so many octets ends, or the frame, if fewer are left.
-fn end_of(at: usize, octets: usize, frame: usize) -> usize
+pub(crate) fn end_of(at: usize, octets: usize, frame: usize) -> usize
     requires { ⌜ at ≤ frame ⌝ }
     ensures { λ r. ⌜ (at ≤ r) × (r ≤ frame) ⌝ }
 {

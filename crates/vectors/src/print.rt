@@ -68,7 +68,7 @@ pub(crate) fn turn(x: u32) -> u32 {
     (x % 65536 * 25173 + 13849) % 65536
 }
 
-fn drawn(x: u32) -> u8 {
+pub(crate) fn drawn(x: u32) -> u8 {
     (x / 256 % 256) as u8
 }
 
