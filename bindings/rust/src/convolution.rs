@@ -132,8 +132,9 @@ impl Convolver {
         Ok(count)
     }
 
-    /// Writes the symbols held, if there are any, as one octet that is filled with zeros ([`close_len`](Self::close_len)), and gives
-    /// their number. This coder stays as it was, refused or not: the next stream needs a new one. Refuses by 7, 6.
+    /// Ends the stream: writes the symbols held, if there are any, as one octet that is filled with zeros ([`close_len`](Self::close_len)
+    /// octets), and gives their number. This coder is only read, and nothing in it says that its stream has ended; the next stream needs
+    /// a new one. Refuses by 7, 6.
     pub fn close(&self, symbols: &mut [u8]) -> Result<u32, Refusal> {
         let mut count = 0;
         accepted(raw::convolve_close(self.rate, &self.state, symbols, &mut count))?;
