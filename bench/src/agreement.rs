@@ -1,6 +1,6 @@
 //! That the sides answer alike: on every timed input, and on a sweep of parameters, limits and refusals.
 
-use crate::calls::{filled_len, Calls, Code, State, PERIODS};
+use crate::calls::{filled_len, Calls, Code, Coder, State, PERIODS};
 use crate::cases::{Case, Lent};
 use crate::data::Draw;
 use std::array::from_fn;
@@ -129,40 +129,30 @@ fn stream(draw: &mut Draw, sides: &[&dyn Calls]) {
     });
 }
 
-/// A call of the convolutional coder and a close from a drawn state; whether the call was accepted.
+/// A state of the convolutional coder with a period of so many bits; now and then a number in it is past its limit.
+fn any_coder(draw: &mut Draw, period: usize) -> Coder {
+    let [register, place, holds] = [64, period, 8].map(|limit| match draw.below(32) {
+        0 => limit as u8,
+        1 => 255,
+        _ => draw.below(limit) as u8,
+    });
+    [register, place, holds, draw.below(256) as u8]
+}
+
+/// A call of the convolutional coder from a drawn state, and a close; whether the call was accepted.
 fn coder(draw: &mut Draw, sides: &[&dyn Calls]) -> bool {
     let n = [0, 1, 2, 5, 16, 255, 1275, 2043, 2044, 2045][draw.below(10)];
     let data = draw.octets(n);
     let rate = one_of(draw, &[1, 2, 3, 4, 5], &[0, 1, 6, u32::MAX]);
-    let period = PERIODS[(rate as usize).clamp(1, 5) - 1];
-    let legal = [draw.below(64), draw.below(period), draw.below(8)];
-    let unfit = [64, period, 8].map(|limit| limit + draw.below(2) * (255 - limit));
-    let [register, place, holds] = from_fn(|k| {
-        let number = if draw.below(16) == 0 {
-            unfit[k]
-        } else {
-            legal[k]
-        };
-        number as u8
-    });
-    let state = [register, place, holds, draw.below(256) as u8];
-
-    let filled = if (1..=5).contains(&rate) {
-        filled_len(rate, state, n)
-    } else {
-        3
-    };
+    let period = PERIODS.get((rate as usize).wrapping_sub(1));
+    let state = any_coder(draw, *period.unwrap_or(&1));
+    let filled = period.map_or(3, |_| filled_len(rate, state, n));
     let mut fresh = Lent::new(about(draw, filled));
     fresh.coder = state;
     let what = format!("convolve, rate {rate}, {state:?}, {n} octets");
     let (answer, ran) = alike(sides, &fresh, &what, |side, lent| {
-        let Lent {
-            coder,
-            octets,
-            count,
-            ..
-        } = lent;
-        side.convolve(rate, coder, &data, octets, count)
+        let (octets, count) = (&mut lent.octets, &mut lent.count);
+        side.convolve(rate, &mut lent.coder, &data, octets, count)
     });
     let mut fresh = Lent::new(about(draw, usize::from(ran.coder[2] > 0)));
     fresh.coder = ran.coder;

@@ -63,19 +63,19 @@ pub struct Case {
 impl Case {
     pub fn call(&self, input: &Input, side: &dyn Calls, lent: &mut Lent) -> u64 {
         let (read, out) = (&input.read, &mut lent.octets);
-        match &self.work {
-            &Work::Encode(code) => side.encode(code, read, out),
-            &Work::Portions(code, size) => in_portions(side, code, size, read, lent),
-            &Work::EmptyPortions(code) => (read.iter())
+        match self.work {
+            Work::Encode(code) => side.encode(code, read, out),
+            Work::Portions(code, size) => in_portions(side, code, size, read, lent),
+            Work::EmptyPortions(code) => (read.iter())
                 .map(|_| side.portion(code, &mut lent.state, &[], &mut []))
                 .fold(0, |all, number| all | number),
-            &Work::Decode(code) => side.decode(code, code.e, read, out, &mut lent.counts),
+            Work::Decode(code) => side.decode(code, code.e, read, out, &mut lent.counts),
             Work::Search => side.search(3, read, 0, u64::MAX, &mut lent.found),
-            &Work::Convolve(rate, state) => {
+            Work::Convolve(rate, state) => {
                 lent.coder = state;
                 side.convolve(rate, &mut lent.coder, read, out, &mut lent.count)
             }
-            Work::Stream(rate, size, filled) => in_calls(side, *rate, *size, filled, read, lent),
+            Work::Stream(rate, size, ref filled) => in_calls(side, rate, size, filled, read, lent),
             Work::Randomise => side.randomise(out),
         }
     }
@@ -232,12 +232,11 @@ fn in_calls(
     side.convolve_close(rate, &lent.coder, out, &mut lent.count)
 }
 
-/// The octets that each call of so many octets fills; the last call may have fewer.
+/// The octets that each call of so many octets fills.
 fn filled_by(rate: u32, size: usize, octets: usize) -> Vec<usize> {
-    let ends = (size..octets + size).step_by(size).map(|n| n.min(octets));
-    let filled: Vec<usize> = ends.map(|n| filled_len(rate, [0; 4], n)).collect();
-    let before = std::iter::once(0).chain(filled.iter().copied());
-    filled.iter().zip(before).map(|(n, m)| n - m).collect()
+    let until = |n: usize| filled_len(rate, [0; 4], n.min(octets));
+    let calls = (0..octets).step_by(size);
+    calls.map(|n| until(n + size) - until(n)).collect()
 }
 
 /// A stream in calls and a close; the symbols are those of one call and a close.

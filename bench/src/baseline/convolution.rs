@@ -103,6 +103,7 @@ pub fn by_bits(
     }
     let [register, place, holds, held] = *state;
     let filled = symbols.len();
+    let inverted = u32::from(rate == 1);
     let sent = SENT[rate as usize - 1];
     let mut times = sent.iter().cycle();
     for _ in 0..place {
@@ -111,13 +112,7 @@ pub fn by_bits(
     let mut packer = Packer::new(symbols, holds, held);
     let mut window = register.into();
     for octet in data {
-        enter(
-            &mut packer,
-            &mut times,
-            &mut window,
-            *octet,
-            u32::from(rate == 1),
-        );
+        enter(&mut packer, &mut times, &mut window, *octet, inverted);
         packer.flush();
     }
     (*state, *count) = ran(*state, sent.len(), data, filled, packer.left());
@@ -144,16 +139,11 @@ struct Row {
 
 impl Row {
     fn new(rate: usize, place: usize) -> Row {
-        let sent = |mut register: u32, octet: u8| {
+        let inverted = u32::from(rate == 1);
+        let sent = |mut window: u32, octet: u8| {
             let mut packer = Packer::new(&mut [], 0, 0);
             let mut times = SENT[rate - 1].iter().cycle().skip(place);
-            enter(
-                &mut packer,
-                &mut times,
-                &mut register,
-                octet,
-                u32::from(rate == 1),
-            );
+            enter(&mut packer, &mut times, &mut window, octet, inverted);
             (packer.held as u16, packer.holds)
         };
         let (of_zeros, count) = sent(0, 0);
@@ -205,22 +195,42 @@ impl ByOctets {
     }
 }
 
-/// N octets at a time: N is so many periods of P bits that they give M whole octets of symbols, at most eight, so that the number of
-/// those held stays.
+/// All octets. N of them are so many periods of P bits that they give M whole octets of symbols, at most eight: they are taken together.
 fn in_groups<const P: usize, const N: usize, const M: usize>(
     rows: &[Row],
     state: Coder,
     data: &[u8],
     symbols: &mut [u8],
 ) -> (Coder, u32) {
-    let [mut register, place, holds, held] = state;
+    let [register, place, holds, held] = state;
     let filled = symbols.len();
     let rows: [&Row; N] = from_fn(|k| &rows[(place as usize + 8 * k) % P]);
     let (groups, rest) = data.as_chunks::<N>();
     let (outputs, last) = symbols.split_at_mut(M * groups.len());
-    // Held symbols stand at the top, those of a group below them.
+    let outputs = outputs.as_chunks_mut::<M>().0;
+    let (mut register, held) = whole_groups(rows, groups, outputs, register, holds, held);
+    let mut packer = Packer::new(last, holds, held);
+    for (row, octet) in rows.iter().zip(rest) {
+        packer.held = packer.held << row.count | row.symbols(register, *octet);
+        packer.holds += row.count;
+        register = octet & 63;
+        packer.flush();
+    }
+    ran(state, P, data, filled, packer.left())
+}
+
+/// The register and the held symbols that groups of octets leave; the number of those held stays.
+fn whole_groups<const N: usize, const M: usize>(
+    rows: [&Row; N],
+    groups: &[[u8; N]],
+    outputs: &mut [[u8; M]],
+    mut register: u8,
+    holds: u8,
+    held: u8,
+) -> (u8, u8) {
+    // At the top, and what a group sends below them.
     let mut held = u64::from(held & !(255 >> holds)) << 56;
-    for (group, output) in groups.iter().zip(outputs.as_chunks_mut::<M>().0) {
+    for (group, output) in groups.iter().zip(outputs) {
         let mut sent = 0;
         for (row, octet) in rows.iter().zip(group) {
             sent = sent << row.count | row.symbols(register, *octet);
@@ -231,12 +241,5 @@ fn in_groups<const P: usize, const N: usize, const M: usize>(
         output.copy_from_slice(&octets[..M]);
         held = sent.unbounded_shl(8 * M as u32 - u32::from(holds));
     }
-    let mut packer = Packer::new(last, holds, (held >> 56) as u8);
-    for (row, octet) in rows.iter().zip(rest) {
-        packer.held = packer.held << row.count | row.symbols(register, *octet);
-        packer.holds += row.count;
-        register = octet & 63;
-        packer.flush();
-    }
-    ran(state, P, data, filled, packer.left())
+    (register, (held >> 56) as u8)
 }
