@@ -14,6 +14,10 @@ use Rattle.convolution.specs.Outcome.{ConvolveOutcome, CloseOutcome, convolvedN
 use Rattle.ironsimmer.specs.Exported.{coderOf, coderOctets, CountPut, RanPut, ConvolveCall, ConvolveCloseCall}
 use Rattle.ironsimmer.proofs.Answers.{known-answer, lent-refused, lent-accepted}
 
+-- The octets that a call leaves are to the next call the state that the coder handed back.
+pub coder-carried : (state : State) → coderOf (coderOctets state) ≡ state
+coder-carried state = refl
+
 module _ (counted : ℕ) {answered : Convolved} where
   pub count-done : (count : ℕ) → answered ≡ Done count → CountPut answered counted 0 count
   count-done count done =

@@ -146,9 +146,9 @@ pub record RanPut (ran : Ran) (octets : List ℕ) (counted answer : ℕ) (octets
   pub held : Lent (coder.convolvedNumber (ran .answer)) (coderOctets (ran .state)) octets octets′
 
 -- Convolve: an answer, a state and a buffer that the outcome permits, the state and the number of symbols put in place.
-pub record ConvolveCall (rate : ℕ) (octets «data» before : List ℕ) (counted answer : ℕ) (octets′ after : List ℕ) (count : ℕ) : Type 0 where
+pub record ConvolveCall (rate : ℕ) (octets input before : List ℕ) (counted answer : ℕ) (octets′ after : List ℕ) (count : ℕ) : Type 0 where
   pub ran : Ran
-  pub outcome : coder.ConvolveOutcome rate (coderOf octets) «data» before ran after
+  pub outcome : coder.ConvolveOutcome rate (coderOf octets) input before ran after
   pub put : RanPut ran octets counted answer octets′ count
 
 -- Its close: an answer and a buffer that the outcome permits, and the number of symbols put in place; the state is read only.

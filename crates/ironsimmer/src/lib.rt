@@ -135,9 +135,9 @@ pub extern "C" fn ironsimmer_convolve(
 ) -> u64
     ensures { λ r. ⌜ ConvolveCall rate (now (state .entry)) (now («data» .entry)) (now (symbols .entry)) (now (count .entry)) r (now (state .exit)) (now (symbols .exit)) (now (count .exit)) ⌝ }
 {
-    let before = coder::state_of(state);
+    let lent = coder::state_of(state);
     coder::put(
-        convolution::convolve(rate, before, data, symbols),
+        convolution::convolve(rate, lent, data, symbols),
         state,
         count,
     )
@@ -152,8 +152,8 @@ pub extern "C" fn ironsimmer_convolve_close(
 ) -> u64
     ensures { λ r. ⌜ ConvolveCloseCall rate (now (state .entry)) (now (symbols .entry)) (now (count .entry)) r (now (symbols .exit)) (now (count .exit)) ⌝ }
 {
-    let held = coder::state_of(state);
-    coder::put_count(convolution::close(rate, held, symbols), count)
+    let lent = coder::state_of(state);
+    coder::put_count(convolution::close(rate, lent, symbols), count)
 }
 
 #[no_mangle]
