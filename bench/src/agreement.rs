@@ -1,8 +1,9 @@
 //! That the sides answer alike: on every timed input, and on a sweep of parameters, limits and refusals.
 
-use crate::calls::{Calls, Code, State};
+use crate::calls::{filled_len, Calls, Code, Coder, State, PERIODS};
 use crate::cases::{Case, Lent};
 use crate::data::Draw;
+use std::array::from_fn;
 
 /// Asks each side, each with the same lent buffers, and gives what all of them answered and wrote.
 fn alike<F>(sides: &[&dyn Calls], fresh: &Lent, what: &str, ask: F) -> (u64, Lent)
@@ -69,7 +70,7 @@ fn portions(draw: &mut Draw, sides: &[&dyn Calls]) {
     let mut fresh = Lent::new(about(draw, n));
     fresh.state = State {
         progress: [about(draw, frame_len.saturating_sub(n)) as u32, closed],
-        rows: std::array::from_fn(|_| std::array::from_fn(|_| draw.below(256) as u8)),
+        rows: from_fn(|_| from_fn(|_| draw.below(256) as u8)),
     };
     let what = format!("portion, {code:?}, {n} octets");
     let (_, taken) = alike(sides, &fresh, &what, |side, lent| {
@@ -128,33 +129,61 @@ fn stream(draw: &mut Draw, sides: &[&dyn Calls]) {
     });
 }
 
-fn octets(draw: &mut Draw, sides: &[&dyn Calls]) {
-    let n = [0, 1, 2, 5, 255, 1275, 2040, 2041, 2044, 2045][draw.below(10)];
-    let data = draw.octets(n);
-    let rate = one_of(draw, &[1, 2, 3, 4, 5], &[0, 6, u32::MAX]);
-    let period = [1, 1, 2, 3, 5, 7, 1][rate.min(6) as usize];
-    let symbols = 8 * n + (8 * n).div_ceil(period);
-    let fresh = Lent::new(about(draw, symbols.div_ceil(8)));
-    let what = format!("convolve, rate {rate}, {n} octets");
-    alike(sides, &fresh, &what, |side, lent| {
-        side.convolve(rate, &data, &mut lent.octets, &mut lent.count)
+/// A state of the convolutional coder with a period of so many bits; now and then a number in it is past its limit.
+fn any_coder(draw: &mut Draw, period: usize) -> Coder {
+    let [register, place, holds] = [64, period, 8].map(|limit| match draw.below(32) {
+        0 => limit as u8,
+        1 => 255,
+        _ => draw.below(limit) as u8,
     });
+    [register, place, holds, draw.below(256) as u8]
+}
+
+/// A call of the convolutional coder from a drawn state, and a close; whether the call was accepted.
+fn coder(draw: &mut Draw, sides: &[&dyn Calls]) -> bool {
+    let n = [0, 1, 2, 5, 16, 255, 1275, 2043, 2044, 2045][draw.below(10)];
+    let data = draw.octets(n);
+    let rate = one_of(draw, &[1, 2, 3, 4, 5], &[0, 1, 6, u32::MAX]);
+    let period = PERIODS.get((rate as usize).wrapping_sub(1));
+    let state = any_coder(draw, *period.unwrap_or(&1));
+    let filled = period.map_or(3, |_| filled_len(rate, state, n));
+    let mut fresh = Lent::new(about(draw, filled));
+    fresh.coder = state;
+    let what = format!("convolve, rate {rate}, {state:?}, {n} octets");
+    let (answer, ran) = alike(sides, &fresh, &what, |side, lent| {
+        let (octets, count) = (&mut lent.octets, &mut lent.count);
+        side.convolve(rate, &mut lent.coder, &data, octets, count)
+    });
+    let mut fresh = Lent::new(about(draw, usize::from(ran.coder[2] > 0)));
+    fresh.coder = ran.coder;
+    let what = format!("convolve_close, rate {rate}, {:?}", ran.coder);
+    alike(sides, &fresh, &what, |side, lent| {
+        side.convolve_close(rate, &lent.coder, &mut lent.octets, &mut lent.count)
+    });
+    answer == 0
+}
+
+fn randomise(draw: &mut Draw, sides: &[&dyn Calls]) {
+    let n = [0, 1, 2, 5, 255, 1275, 2040, 2041, 2044][draw.below(9)];
     alike(sides, &Lent::new(n), "randomise", |side, lent| {
         side.randomise(&mut lent.octets)
     });
 }
 
-/// How often each number was decode's answer in so many draws, all of which the sides answered alike.
-pub fn of_sweep(sides: &[&dyn Calls], draws: usize) -> [usize; 11] {
+/// How often each number was decode's answer in so many draws, all of which the sides answered alike, and how many calls of the
+/// convolutional coder were accepted.
+pub fn of_sweep(sides: &[&dyn Calls], draws: usize) -> ([usize; 11], usize) {
     let mut draw = Draw::new(2);
     let mut answers = [0; 11];
+    let mut convolved = 0;
     for n in 0..draws {
         answers[words(&mut draw, sides) as usize] += 1;
         portions(&mut draw, sides);
-        octets(&mut draw, sides);
+        convolved += usize::from(coder(&mut draw, sides));
+        randomise(&mut draw, sides);
         if n % 20 == 0 {
             stream(&mut draw, sides);
         }
     }
-    answers
+    (answers, convolved)
 }

@@ -38,6 +38,21 @@ impl State {
     }
 }
 
+/// The state of the convolutional coder: register, place in the period, how many symbols are held, and those. All zero is the start.
+pub type Coder = [u8; 4];
+
+/// The bits of the puncture periods, by the rate's number from 1 on.
+pub const PERIODS: [usize; 5] = [1, 2, 3, 5, 7];
+
+/// The octets that a call of the coder fills at a rate and from a state that are legal. One symbol comes of each bit, and one more of each
+/// that begins a period.
+pub fn filled_len(rate: u32, state: Coder, data: usize) -> usize {
+    let period = PERIODS[rate as usize - 1];
+    let (place, holds) = (state[1] as usize, state[2] as usize);
+    let begun = (place + 8 * data).div_ceil(period) - usize::from(place > 0);
+    (holds + 8 * data + begun) / 8
+}
+
 /// What search answers first; the numbers of the header.
 pub const FOUND: u64 = 1;
 pub const ABSENT: u64 = 2;
@@ -68,7 +83,16 @@ pub trait Calls {
         found: &mut [u64; 4],
     ) -> u64;
 
-    fn convolve(&self, rate: u32, data: &[u8], symbols: &mut [u8], count: &mut u32) -> u64;
+    fn convolve(
+        &self,
+        rate: u32,
+        state: &mut Coder,
+        data: &[u8],
+        symbols: &mut [u8],
+        count: &mut u32,
+    ) -> u64;
+
+    fn convolve_close(&self, rate: u32, state: &Coder, symbols: &mut [u8], count: &mut u32) -> u64;
 
     fn randomise(&self, block: &mut [u8]) -> u64;
 }

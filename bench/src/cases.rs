@@ -1,6 +1,6 @@
 //! The cases that are timed: each a call on inputs that were made beforehand.
 
-use crate::calls::{Calls, Code, State, ABSENT, FOUND};
+use crate::calls::{filled_len, Calls, Code, Coder, State, ABSENT, FOUND};
 use crate::data::Draw;
 
 /// Different inputs in turn, so that no side's branches are learnt by heart.
@@ -15,6 +15,7 @@ pub struct Lent {
     pub found: [u64; 4],
     pub count: u32,
     pub state: State,
+    pub coder: Coder,
 }
 
 impl Lent {
@@ -26,6 +27,7 @@ impl Lent {
             found: [170; 4],
             count: 170,
             state: State::start(),
+            coder: [0; 4],
         }
     }
 }
@@ -38,7 +40,10 @@ enum Work {
     EmptyPortions(Code),
     Decode(Code),
     Search,
-    Convolve(u32),
+    /// From a state of the coder.
+    Convolve(u32, Coder),
+    /// From the start in calls of so many octets, which fill so many each, and the close.
+    Stream(u32, usize, Vec<usize>),
     Randomise,
 }
 
@@ -66,14 +71,21 @@ impl Case {
                 .fold(0, |all, number| all | number),
             Work::Decode(code) => side.decode(code, code.e, read, out, &mut lent.counts),
             Work::Search => side.search(3, read, 0, u64::MAX, &mut lent.found),
-            Work::Convolve(rate) => side.convolve(rate, read, out, &mut lent.count),
+            Work::Convolve(rate, state) => {
+                lent.coder = state;
+                side.convolve(rate, &mut lent.coder, read, out, &mut lent.count)
+            }
+            Work::Stream(rate, size, ref filled) => in_calls(side, rate, size, filled, read, lent),
             Work::Randomise => side.randomise(out),
         }
     }
 
     /// Whether the baseline's faster form is another than its plain one.
     pub fn has_faster(&self) -> bool {
-        matches!(self.work, Work::Decode(_) | Work::Convolve(_))
+        matches!(
+            self.work,
+            Work::Decode(_) | Work::Convolve(..) | Work::Stream(..)
+        )
     }
 
     fn new(name: String, work: Work, octets: usize, input: impl FnMut() -> Input) -> Case {
@@ -186,13 +198,73 @@ fn search(draw: &mut Draw, side: &dyn Calls) -> Case {
     Case::new(name, Work::Search, 0, input)
 }
 
-fn convolve(draw: &mut Draw, rate: u32, spelt: &str, symbols: usize) -> Case {
+const RATES: [&str; 5] = ["1/2", "2/3", "3/4", "5/6", "7/8"];
+
+fn convolve(draw: &mut Draw, rate: u32, state: Coder, after: &str) -> Case {
     let input = || Input {
         read: draw.octets(2044),
         expected: None,
     };
-    let name = format!("convolve, 2044 octets, rate {spelt}");
-    Case::new(name, Work::Convolve(rate), symbols, input)
+    let spelt = RATES[rate as usize - 1];
+    let name = format!("convolve, 2044 octets, rate {spelt}{after}");
+    let symbols = filled_len(rate, state, 2044);
+    Case::new(name, Work::Convolve(rate, state), symbols, input)
+}
+
+fn in_calls(
+    side: &dyn Calls,
+    rate: u32,
+    size: usize,
+    filled: &[usize],
+    data: &[u8],
+    lent: &mut Lent,
+) -> u64 {
+    lent.coder = [0; 4];
+    let mut out = &mut lent.octets[..];
+    for (data, n) in data.chunks(size).zip(filled) {
+        let (symbols, rest) = out.split_at_mut(*n);
+        let number = side.convolve(rate, &mut lent.coder, data, symbols, &mut lent.count);
+        if number != 0 {
+            return number;
+        }
+        out = rest;
+    }
+    side.convolve_close(rate, &lent.coder, out, &mut lent.count)
+}
+
+/// The octets that each call of so many octets fills.
+fn filled_by(rate: u32, size: usize, octets: usize) -> Vec<usize> {
+    let until = |n: usize| filled_len(rate, [0; 4], n.min(octets));
+    let calls = (0..octets).step_by(size);
+    calls.map(|n| until(n + size) - until(n)).collect()
+}
+
+/// A stream in calls and a close; the symbols are those of one call and a close.
+fn stream(draw: &mut Draw, side: &dyn Calls, rate: u32, size: usize) -> Case {
+    let filled = filled_by(rate, size, 2044);
+    let whole = filled_len(rate, [0; 4], 2044);
+    // As if seven symbols were held: the octets of all symbols, rounded up.
+    let closed = filled_len(rate, [0, 0, 7, 0], 2044);
+    let input = || {
+        let data = draw.octets(2044);
+        let mut one = Lent::new(closed);
+        assert_eq!(in_calls(side, rate, 2044, &[whole], &data, &mut one), 0);
+        let mut lent = Lent::new(closed);
+        assert_eq!(in_calls(side, rate, size, &filled, &data, &mut lent), 0);
+        assert!(lent == one, "other symbols in calls of {size}");
+        Input {
+            read: data,
+            expected: Some(lent),
+        }
+    };
+    let spelt = RATES[rate as usize - 1];
+    let name = format!("convolve in calls of {size}, 2044 octets, rate {spelt}");
+    Case::new(
+        name,
+        Work::Stream(rate, size, filled.clone()),
+        closed,
+        input,
+    )
 }
 
 /// In place: each call undoes the one before, on every side alike.
@@ -217,8 +289,11 @@ pub fn all(side: &dyn Calls) -> Vec<Case> {
         cases.push(decode(&mut draw, side, e, wrong));
     }
     cases.push(search(&mut draw, side));
-    cases.push(convolve(&mut draw, 1, "1/2", 4088));
-    cases.push(convolve(&mut draw, 5, "7/8", 2336));
+    for rate in 1..=5 {
+        cases.push(convolve(&mut draw, rate, [0; 4], ""));
+    }
+    cases.push(convolve(&mut draw, 1, [45, 0, 3, 0xA0], ", 3 held"));
+    cases.push(stream(&mut draw, side, 5, 16));
     cases.push(randomise());
     cases
 }

@@ -32,13 +32,13 @@ fn features() -> String {
 }
 
 fn compare(sides: &[&dyn Calls], cases: &[Case]) {
-    let answers = agreement::of_sweep(sides, DRAWS);
+    let (answers, convolved) = agreement::of_sweep(sides, DRAWS);
     for case in cases {
         agreement::of_case(case, sides);
     }
     println!(
         "The sides agree on {DRAWS} draws of parameters and data (decode delivered {}, refused {} by 10, \
-         the rest by 1 to 6), and on every timed input.",
+         the rest by 1 to 6; convolve accepted {convolved}), and on every timed input.",
         answers[0], answers[10]
     );
 }
@@ -93,6 +93,17 @@ fn write_portions(timings: &mut [Vec<Timing>]) {
     );
 }
 
+/// What calls of 16 octets cost beside one call.
+fn write_streams(timings: &mut [Vec<Timing>]) {
+    let whole = best(timings, "convolve, 2044 octets, rate 7/8");
+    let in_calls = best(timings, "convolve in calls of 16,");
+    println!(
+        "A stream of 2044 octets at rate 7/8 takes {:.2} times one call in calls of 16 octets; an octet takes {:.2} ns.",
+        in_calls / whole,
+        1000.0 * whole / 2044.0
+    );
+}
+
 fn main() {
     let plain = Baseline::new(Form::Plain);
     let faster = Baseline::new(Form::Faster);
@@ -118,4 +129,5 @@ fn main() {
     println!("|---|---|---|---|---|---|");
     timings.iter_mut().for_each(|sides| write_row(sides));
     write_portions(&mut timings);
+    write_streams(&mut timings);
 }

@@ -1,6 +1,6 @@
 //! The proved code, through its C interface.
 
-use crate::calls::{Calls, Code, State};
+use crate::calls::{Calls, Code, Coder, State};
 
 extern "C" {
     fn ironsimmer_encode(
@@ -53,8 +53,16 @@ extern "C" {
     ) -> u64;
     fn ironsimmer_convolve(
         rate: u32,
+        state: *mut u8,
         data: *const u8,
         data_len: usize,
+        symbols: *mut u8,
+        symbols_len: usize,
+        count: *mut u32,
+    ) -> u64;
+    fn ironsimmer_convolve_close(
+        rate: u32,
+        state: *const u8,
         symbols: *mut u8,
         symbols_len: usize,
         count: *mut u32,
@@ -143,9 +151,23 @@ impl Calls for Ours {
         unsafe { ironsimmer_search(tolerance, octets, len, start, budget, found.as_mut_ptr()) }
     }
 
-    fn convolve(&self, rate: u32, data: &[u8], symbols: &mut [u8], count: &mut u32) -> u64 {
+    fn convolve(
+        &self,
+        rate: u32,
+        state: &mut Coder,
+        data: &[u8],
+        symbols: &mut [u8],
+        count: &mut u32,
+    ) -> u64 {
+        let (read, read_len) = (data.as_ptr(), data.len());
         let (out, out_len) = (symbols.as_mut_ptr(), symbols.len());
-        unsafe { ironsimmer_convolve(rate, data.as_ptr(), data.len(), out, out_len, count) }
+        let state = state.as_mut_ptr();
+        unsafe { ironsimmer_convolve(rate, state, read, read_len, out, out_len, count) }
+    }
+
+    fn convolve_close(&self, rate: u32, state: &Coder, symbols: &mut [u8], count: &mut u32) -> u64 {
+        let (out, out_len) = (symbols.as_mut_ptr(), symbols.len());
+        unsafe { ironsimmer_convolve_close(rate, state.as_ptr(), out, out_len, count) }
     }
 
     fn randomise(&self, block: &mut [u8]) -> u64 {

@@ -1,6 +1,6 @@
 //! The checks of parameters and lengths: the refusal's number, 0 if there is none.
 
-use crate::calls::{Code, State};
+use crate::calls::{filled_len, Code, Coder, State, PERIODS};
 
 fn code(code: Code) -> u64 {
     if code.e != 8 && code.e != 16 {
@@ -70,26 +70,28 @@ pub fn search(tolerance: u32, stream: usize, start: u64) -> u64 {
     }
 }
 
-/// So many symbols come of so many bits, one more for each period that was begun.
-pub fn symbol_count(bits: usize, period: usize) -> usize {
-    bits + bits.div_ceil(period)
+/// 7 if there is no such rate, or the coder has no such state at it.
+fn coder(rate: u32, state: Coder) -> u64 {
+    let [register, place, holds, _] = state;
+    let period = PERIODS.get((rate as usize).wrapping_sub(1));
+    match period {
+        Some(period) if register < 64 && (place as usize) < *period && holds < 8 => 0,
+        _ => 7,
+    }
 }
 
-pub fn convolve(rate: u32, data: usize, symbols: usize) -> u64 {
-    let period = match rate {
-        1 => 1,
-        2 => 2,
-        3 => 3,
-        4 => 5,
-        5 => 7,
-        _ => return 7,
-    };
-    if data > 2044 {
-        5
-    } else if symbols != symbol_count(8 * data, period).div_ceil(8) {
-        6
-    } else {
-        0
+pub fn convolve(rate: u32, state: Coder, data: usize, symbols: usize) -> u64 {
+    match coder(rate, state) {
+        0 if data > 2044 => 5,
+        0 if symbols != filled_len(rate, state, data) => 6,
+        number => number,
+    }
+}
+
+pub fn convolve_close(rate: u32, state: Coder, symbols: usize) -> u64 {
+    match coder(rate, state) {
+        0 if symbols != usize::from(state[2] > 0) => 6,
+        number => number,
     }
 }
 

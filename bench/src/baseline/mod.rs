@@ -10,7 +10,7 @@ mod portions;
 mod randomiser;
 mod tables;
 
-use crate::calls::{Calls, Code, State};
+use crate::calls::{Calls, Code, Coder, State};
 use convolution::ByOctets;
 use encoder::Encoder;
 use randomiser::Sequence;
@@ -94,11 +94,22 @@ impl Calls for Baseline {
         marker::search(tolerance, stream, start, budget, found)
     }
 
-    fn convolve(&self, rate: u32, data: &[u8], symbols: &mut [u8], count: &mut u32) -> u64 {
+    fn convolve(
+        &self,
+        rate: u32,
+        state: &mut Coder,
+        data: &[u8],
+        symbols: &mut [u8],
+        count: &mut u32,
+    ) -> u64 {
         match self.form {
-            Form::Plain => convolution::by_bits(rate, data, symbols, count),
-            Form::Faster => self.by_octets.convolve(rate, data, symbols, count),
+            Form::Plain => convolution::by_bits(rate, state, data, symbols, count),
+            Form::Faster => self.by_octets.convolve(rate, state, data, symbols, count),
         }
+    }
+
+    fn convolve_close(&self, rate: u32, state: &Coder, symbols: &mut [u8], count: &mut u32) -> u64 {
+        convolution::close(rate, *state, symbols, count)
     }
 
     fn randomise(&self, block: &mut [u8]) -> u64 {

@@ -13,7 +13,7 @@ mod refusal;
 mod words;
 
 pub use chain::Chain;
-pub use convolution::{convolve, symbols_len};
+pub use convolution::{convolve, symbols_len, CoderState, Convolver};
 pub use marker::{search, test_marker, Search, MARKER};
 pub use portions::PortionEncoder;
 pub use randomiser::{randomise, Sequence};

@@ -1,4 +1,4 @@
-//! The eleven calls of `include/ironsimmer.h`, each behind a function that anyone may call. No other module has `unsafe` in it.
+//! The twelve calls of `include/ironsimmer.h`, each behind a function that anyone may call. No other module has `unsafe` in it.
 //!
 //! The header asks two things of its caller. Each pointer is not null and points to as many octets or numbers as are said to be
 //! there: a reference is never null, not even an empty slice's, and a slice's own length goes with it. And what is lent to be
@@ -68,8 +68,17 @@ extern "C" {
 
     fn ironsimmer_convolve(
         rate: u32,
+        state: *mut u8,
         data: *const u8,
         data_len: usize,
+        symbols: *mut u8,
+        symbols_len: usize,
+        count: *mut u32,
+    ) -> u64;
+
+    fn ironsimmer_convolve_close(
+        rate: u32,
+        state: *const u8,
         symbols: *mut u8,
         symbols_len: usize,
         count: *mut u32,
@@ -188,10 +197,26 @@ pub fn search(tolerance: u32, stream: &[u8], start: u64, budget: u64, found: &mu
     unsafe { ironsimmer_search(tolerance, stream.as_ptr(), stream.len(), start, budget, found.as_mut_ptr()) }
 }
 
-pub fn convolve(rate: u32, data: &[u8], symbols: &mut [u8], count: &mut u32) -> u64 {
-    // SAFETY: both slices go with their own lengths, and the symbols and the one number written, each lent by `&mut`, overlap neither
-    // the data nor each other.
-    unsafe { ironsimmer_convolve(rate, data.as_ptr(), data.len(), symbols.as_mut_ptr(), symbols.len(), count) }
+pub fn convolve(rate: u32, state: &mut [u8; 4], data: &[u8], symbols: &mut [u8], count: &mut u32) -> u64 {
+    // SAFETY: both slices go with their own lengths, state has the four octets that are written, and the state, the symbols and the one
+    // number written, each lent by `&mut`, overlap neither the data nor each other.
+    unsafe {
+        ironsimmer_convolve(
+            rate,
+            state.as_mut_ptr(),
+            data.as_ptr(),
+            data.len(),
+            symbols.as_mut_ptr(),
+            symbols.len(),
+            count,
+        )
+    }
+}
+
+pub fn convolve_close(rate: u32, state: &[u8; 4], symbols: &mut [u8], count: &mut u32) -> u64 {
+    // SAFETY: the symbols go with their own length, state has the four octets that are read, and the symbols and the one number written,
+    // each lent by `&mut`, overlap neither the state nor each other.
+    unsafe { ironsimmer_convolve_close(rate, state.as_ptr(), symbols.as_mut_ptr(), symbols.len(), count) }
 }
 
 pub fn transmit(words: Words, randomised: bool, frame: &[u8], marked: &mut [u8]) -> u64 {

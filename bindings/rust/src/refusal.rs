@@ -19,7 +19,8 @@ pub enum Refusal {
     InputLength,
     /// 6: what is written has not the length required.
     OutputLength,
-    /// 7: the rate is none of 1 to 5.
+    /// 7: the rate is none of 1 to 5, or the coder cannot be in the state at that rate: the register is over 63, the place is not below the
+    /// rate's period, or more than 7 symbols are held.
     Rate,
     /// 8: the tolerance is over 3.
     Tolerance,
@@ -69,7 +70,7 @@ impl fmt::Display for Refusal {
             Refusal::Allowance => write!(f, "the allowance is over the strength"),
             Refusal::InputLength => write!(f, "the input has not the length required, or is over the limit"),
             Refusal::OutputLength => write!(f, "the output has not the length required"),
-            Refusal::Rate => write!(f, "the rate is none of 1 to 5"),
+            Refusal::Rate => write!(f, "the rate is none of 1 to 5, or the coder cannot be in the state at that rate"),
             Refusal::Tolerance => write!(f, "the tolerance is over 3"),
             Refusal::Marker { wrong_bits } => write!(f, "the marker has {wrong_bits} wrong bits"),
             Refusal::Word { word } => write!(f, "word {word} has no codeword within the allowance"),

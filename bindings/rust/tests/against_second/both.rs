@@ -1,10 +1,12 @@
-//! The eleven calls, each made in both programs on the same input. All that they answer and leave behind is compared.
+//! The twelve calls, each made in both programs on the same input. All that they answer and leave behind is compared.
 
-use ironsimmer::{Chain, PortionEncoder, Refusal, Report, Search, Sequence, Words};
+use ironsimmer::{Chain, CoderState, Convolver, PortionEncoder, Refusal, Report, Search, Sequence, Words};
 use second::blocks::{Code, Decoding};
+use second::convolution::Coder;
 use second::data::{bits, packed};
 use second::marker::Searched;
 use second::portions::Progress;
+use std::fmt::Debug;
 
 const GUARD: [u8; 8] = [0xC5; 8];
 
@@ -15,6 +17,21 @@ fn lent<T>(before: &[u8], call: impl FnOnce(&mut [u8]) -> T) -> (T, Vec<u8>) {
     let answer = call(&mut around[inside.clone()]);
     assert_eq!((&around[..inside.start], &around[inside.end..]), (&GUARD[..], &GUARD[..]), "octets beside the buffer");
     (answer, around[inside].to_vec())
+}
+
+/// The same with a state beside the buffer, which is lent between two others. They must stay as they are.
+fn lent_with<S: Clone + Debug + PartialEq, T>(
+    state: &mut S,
+    beside: S,
+    before: &[u8],
+    call: impl FnOnce(&mut S, &mut [u8]) -> T,
+) -> (T, Vec<u8>) {
+    let mut around = [beside.clone(), state.clone(), beside.clone()];
+    let (answer, after) = lent(before, |buffer| call(&mut around[1], buffer));
+    let [left, middle, right] = around;
+    *state = middle;
+    assert_eq!((&left, &right), (&beside, &beside), "octets beside the state");
+    (answer, after)
 }
 
 /// An answer's number and value; 0 and 0 if accepted.
@@ -57,8 +74,8 @@ fn state(encoder: &PortionEncoder) -> Progress {
     Progress { place: encoder.place().into(), closed: encoder.is_closed(), rows: *encoder.rows() }
 }
 
-/// Lends an encoder, between two others, and a buffer to a call. Demands that number, state and buffer are then those expected, that the
-/// encoders beside it stay as they are, and that it does too if it refuses.
+/// Lends an encoder and a buffer to a call. Demands that number, state and buffer are then those expected, and that the encoder stays as it
+/// is if it refuses.
 fn stepped(
     encoder: &mut PortionEncoder,
     before: &[u8],
@@ -67,16 +84,12 @@ fn stepped(
 ) -> (Result<(), Refusal>, Vec<u8>) {
     let held = encoder.clone();
     let beside = PortionEncoder::from_state(held.words(), u32::MAX, true, [[GUARD[0]; 32]; 8]);
-    let mut around = [beside.clone(), held.clone(), beside.clone()];
-    let (answer, after) = lent(before, |buffer| call(&mut around[1], buffer));
-    let [left, middle, right] = around;
-    *encoder = middle;
+    let (answer, after) = lent_with(encoder, beside, before, call);
 
     let (number, next, output) = expected;
     assert_eq!(numbers(&answer), (number, 0), "{held:?}");
     assert_eq!((encoder.words(), state(encoder)), (held.words(), next), "{held:?}");
     assert_eq!(after, output, "{held:?}");
-    assert_eq!((&left, &right), (&beside, &beside), "octets beside the state");
     assert!(answer.is_ok() || *encoder == held, "a refusal changed {held:?}");
     (answer, after)
 }
@@ -167,10 +180,64 @@ pub fn search(tolerance: u32, stream: &[u8], start: u64, budget: u64) -> Result<
     answer
 }
 
-/// The answer, and the symbols as they are afterwards.
-pub fn convolve(rate: u32, data: &[u8], before: &[u8]) -> (Result<u32, Refusal>, Vec<u8>) {
+/// A coder's state, as the second program has it.
+fn carried(coder: &Convolver) -> Coder {
+    let CoderState { register, place, holds, held } = coder.state();
+    Coder { register, place, holds, held }
+}
+
+/// Lends a coder and a buffer to a call. Demands that count, state and symbols are then those expected, and that coder and buffer stay as
+/// they are if it refuses, also the bits below the symbols held.
+fn coded(
+    coder: &mut Convolver,
+    before: &[u8],
+    expected: Result<(usize, Vec<u8>, Coder), u64>,
+    call: impl FnOnce(&mut Convolver, &mut [u8]) -> Result<u32, Refusal>,
+) -> (Result<u32, Refusal>, Vec<u8>) {
+    let held = coder.clone();
+    let guards = CoderState { register: GUARD[0], place: GUARD[0], holds: GUARD[0], held: GUARD[0] };
+    let beside = Convolver::from_state(u32::MAX, guards);
+    let (answer, after) = lent_with(coder, beside, before, call);
+
+    assert_eq!(coder.rate(), held.rate());
+    match expected {
+        Ok((count, symbols, next)) => {
+            assert_eq!((answer, carried(coder)), (Ok(count as u32), next), "{held:?}");
+            assert_eq!(after, symbols, "{held:?}");
+        }
+        Err(number) => {
+            assert_eq!((numbers(&answer), &*coder), ((number, 0), &held));
+            assert_eq!(after, before, "{held:?}");
+        }
+    }
+    (answer, after)
+}
+
+/// The answer, and the symbols as they are afterwards. The coder is left as the call leaves it.
+pub fn convolve(coder: &mut Convolver, data: &[u8], before: &[u8]) -> (Result<u32, Refusal>, Vec<u8>) {
+    let expected = second::convolution::convolve(coder.rate(), carried(coder), data, before.len());
+    coded(coder, before, expected, |coder, symbols| coder.push(data, symbols))
+}
+
+/// The answer, and the symbols as they are afterwards. The coder stays as it is.
+pub fn convolve_close(coder: &mut Convolver, before: &[u8]) -> (Result<u32, Refusal>, Vec<u8>) {
+    let state = carried(coder);
+    let closed = second::convolution::close(coder.rate(), state, before.len());
+    let expected = closed.map(|(count, octets)| (count, octets, state));
+    coded(coder, before, expected, |coder, symbols| coder.close(symbols))
+}
+
+/// The answer, and the symbols as they are afterwards, of data that are coded by themselves: in the second program a call from the start
+/// and a close. The octets are the call's, or but the last, which is then the close's.
+pub fn convolve_alone(rate: u32, data: &[u8], before: &[u8]) -> (Result<u32, Refusal>, Vec<u8>) {
     let (answer, symbols) = lent(before, |symbols| ironsimmer::convolve(rate, data, symbols));
-    match second::convolution::convolve(rate, data, before.len()) {
+    let split_at = |filled: usize| {
+        let (count, octets, next) = second::convolution::convolve(rate, Coder::start(), data, filled)?;
+        let (_, last) = second::convolution::close(rate, next, before.len() - filled)?;
+        Ok::<_, u64>((count, [octets, last].concat()))
+    };
+    let expected = split_at(before.len()).or_else(|_| split_at(before.len().saturating_sub(1)));
+    match expected {
         Ok((count, expected)) => assert_eq!((answer, &symbols), (Ok(count as u32), &expected), "rate {rate}"),
         Err(number) => assert_eq!((numbers(&answer), &symbols[..]), ((number, 0), before), "rate {rate}"),
     }
