@@ -80,12 +80,13 @@ impl Case {
         }
     }
 
-    /// Whether the baseline's faster form is another than its plain one.
-    pub fn has_faster(&self) -> bool {
-        matches!(
-            self.work,
-            Work::Decode(_) | Work::Convolve(..) | Work::Stream(..)
-        )
+    /// In how many forms the baseline does the work.
+    pub fn forms(&self) -> usize {
+        match self.work {
+            Work::Convolve(..) | Work::Stream(..) => 3,
+            Work::Decode(_) => 2,
+            _ => 1,
+        }
     }
 
     fn new(name: String, work: Work, octets: usize, input: impl FnMut() -> Input) -> Case {

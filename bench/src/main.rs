@@ -55,7 +55,7 @@ fn write_row(sides: &mut [Timing]) {
     let (best, median) = sides[0].result();
     let pair = |a: f64, b: f64| format!("{} ({})", number(a), number(b));
     print!("| {} | {} |", sides[0].case_name(), pair(best, median));
-    for k in 1..3 {
+    for k in 1..4 {
         match sides.get_mut(k).map(Timing::result) {
             Some((b, m)) => print!(" {} | {} |", pair(b, m), pair(best / b, median / m)),
             None => print!(" | |"),
@@ -107,14 +107,15 @@ fn write_streams(timings: &mut [Vec<Timing>]) {
 fn main() {
     let plain = Baseline::new(Form::Plain);
     let faster = Baseline::new(Form::Faster);
-    let sides: [&dyn Calls; 3] = [&ours::Ours, &plain, &faster];
+    let fastest = Baseline::new(Form::Fastest);
+    let sides: [&dyn Calls; 4] = [&ours::Ours, &plain, &faster, &fastest];
     let arch = std::env::consts::ARCH;
     println!("Plain Rust may use, on {arch}: {}.", features());
 
     let cases = cases::all(&ours::Ours);
     compare(&sides, &cases);
     let timed = |case| {
-        let sides = &sides[..if Case::has_faster(case) { 3 } else { 2 }];
+        let sides = &sides[..=Case::forms(case)];
         sides.iter().map(|side| Timing::new(case, *side)).collect()
     };
     let mut timings: Vec<Vec<Timing>> = cases.iter().map(timed).collect();
@@ -125,8 +126,10 @@ fn main() {
          a ratio is ours / theirs, of the best (of the medians)."
     );
     println!();
-    println!("| Case | Ours | Plain Rust | Ratio | Faster plain Rust | Ratio |");
-    println!("|---|---|---|---|---|---|");
+    println!(
+        "| Case | Ours | Plain Rust | Ratio | Faster plain Rust | Ratio | Fastest plain Rust | Ratio |"
+    );
+    println!("|---|---|---|---|---|---|---|---|");
     timings.iter_mut().for_each(|sides| write_row(sides));
     write_portions(&mut timings);
     write_streams(&mut timings);

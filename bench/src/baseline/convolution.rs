@@ -1,4 +1,4 @@
-//! The convolutional coder in two forms: bit by bit with masks and counted ones, and octet by octet with tables.
+//! The convolutional coder in two forms: bit by bit with masks and counted ones, and octet by octet with sums of shifted windows.
 
 use super::limits;
 use crate::calls::Coder;
@@ -13,7 +13,7 @@ const C1: (bool, bool) = (true, false);
 const C2: (bool, bool) = (false, true);
 
 /// Whether C1 and C2 are sent, by bit time, for each rate.
-const SENT: [&[(bool, bool)]; 5] = [
+pub const SENT: [&[(bool, bool)]; 5] = [
     &[BOTH],
     &[BOTH, C2],
     &[BOTH, C2, C1],
@@ -22,14 +22,14 @@ const SENT: [&[(bool, bool)]; 5] = [
 ];
 
 /// Symbols on their way into octets, the newest lowest.
-struct Packer<'a> {
+pub struct Packer<'a> {
     out: std::slice::IterMut<'a, u8>,
-    held: u64,
-    holds: u32,
+    pub held: u64,
+    pub holds: u32,
 }
 
 impl Packer<'_> {
-    fn new(symbols: &mut [u8], holds: u8, held: u8) -> Packer<'_> {
+    pub fn new(symbols: &mut [u8], holds: u8, held: u8) -> Packer<'_> {
         Packer {
             out: symbols.iter_mut(),
             held: u64::from(held) >> (8 - holds),
@@ -48,7 +48,7 @@ impl Packer<'_> {
 
     /// Writes the whole octets out.
     #[inline(always)]
-    fn flush(&mut self) {
+    pub fn flush(&mut self) {
         while self.holds >= 8 {
             self.holds -= 8;
             if let Some(octet) = self.out.next() {
@@ -58,13 +58,19 @@ impl Packer<'_> {
     }
 
     /// How many symbols are left, and those.
-    fn left(self) -> (u8, u8) {
+    pub fn left(self) -> (u8, u8) {
         (self.holds as u8, (self.held << (8 - self.holds)) as u8)
     }
 }
 
 /// The state after so many octets, and the number of their symbols.
-fn ran(before: Coder, period: usize, data: &[u8], filled: usize, left: (u8, u8)) -> (Coder, u32) {
+pub fn ran(
+    before: Coder,
+    period: usize,
+    data: &[u8],
+    filled: usize,
+    left: (u8, u8),
+) -> (Coder, u32) {
     let [register, place, held_before, _] = before;
     let (holds, held) = left;
     let register = data.last().map_or(register, |octet| octet & 63);
@@ -75,7 +81,7 @@ fn ran(before: Coder, period: usize, data: &[u8], filled: usize, left: (u8, u8))
 
 /// One octet bit by bit. A sum modulo 2 is the lowest bit of the number of ones.
 #[inline(always)]
-fn enter<'a>(
+pub fn enter<'a>(
     packer: &mut Packer,
     times: &mut impl Iterator<Item = &'a (bool, bool)>,
     window: &mut u32,
@@ -129,45 +135,13 @@ pub fn close(rate: u32, state: Coder, symbols: &mut [u8], count: &mut u32) -> u6
     number
 }
 
-/// The symbols of an octet from a place of the period on: those after a register of zeros, and what another register adds to them, since
-/// each is a sum of bits.
-struct Row {
-    of_octet: [u16; 256],
-    of_register: [u16; 64],
-    count: u32,
-}
+/// The faster form. Its table has each octet's bits with a zero in front of each.
+pub struct ByWindows([u16; 256]);
 
-impl Row {
-    fn new(rate: usize, place: usize) -> Row {
-        let inverted = u32::from(rate == 1);
-        let sent = |mut window: u32, octet: u8| {
-            let mut packer = Packer::new(&mut [], 0, 0);
-            let mut times = SENT[rate - 1].iter().cycle().skip(place);
-            enter(&mut packer, &mut times, &mut window, octet, inverted);
-            (packer.held as u16, packer.holds)
-        };
-        let (of_zeros, count) = sent(0, 0);
-        Row {
-            of_octet: from_fn(|octet| sent(0, octet as u8).0),
-            of_register: from_fn(|register| sent(register as u32, 0).0 ^ of_zeros),
-            count,
-        }
-    }
-
-    #[inline(always)]
-    fn symbols(&self, register: u8, octet: u8) -> u64 {
-        u64::from(self.of_octet[octet as usize] ^ self.of_register[register as usize & 63])
-    }
-}
-
-/// The faster form: for each rate a row for each place of its period.
-pub struct ByOctets([Vec<Row>; 5]);
-
-impl ByOctets {
-    pub fn new() -> ByOctets {
-        ByOctets(from_fn(|k| {
-            let places = 0..SENT[k].len();
-            places.map(|place| Row::new(k + 1, place)).collect()
+impl ByWindows {
+    pub fn new() -> ByWindows {
+        ByWindows(from_fn(|octet| {
+            (0..8).fold(0, |spread, k| spread | ((octet >> k & 1) << (2 * k)) as u16)
         }))
     }
 
@@ -183,63 +157,67 @@ impl ByOctets {
         if number != 0 {
             return number;
         }
-        let [one, two, three, five, seven] = &self.0;
-        (*state, *count) = match rate {
-            1 => in_groups::<1, 4, 8>(one, *state, data, symbols),
-            2 => in_groups::<2, 4, 6>(two, *state, data, symbols),
-            3 => in_groups::<3, 3, 4>(three, *state, data, symbols),
-            4 => in_groups::<5, 5, 6>(five, *state, data, symbols),
-            _ => in_groups::<7, 7, 8>(seven, *state, data, symbols),
+        let sent = SENT[rate as usize - 1];
+        let filled = symbols.len();
+        let left = match (rate, state[2]) {
+            (1, 0) => self.pairs(state[0], data, symbols),
+            (1, _) => self.pairs_behind(*state, data, symbols),
+            _ => punctured(sent, *state, data, symbols),
         };
+        (*state, *count) = ran(*state, sent.len(), data, filled, left);
         0
     }
+
+    fn pair(&self, window: u32) -> u16 {
+        let (first, second) = sums(window);
+        self.0[first as usize] << 1 | self.0[!second as usize]
+    }
+
+    /// Rate 1/2 with nothing held: two octets for each.
+    fn pairs(&self, register: u8, data: &[u8], symbols: &mut [u8]) -> (u8, u8) {
+        let mut window = register.into();
+        for (octet, pairs) in data.iter().zip(symbols.chunks_exact_mut(2)) {
+            window = window << 8 | u32::from(*octet);
+            pairs.copy_from_slice(&self.pair(window).to_be_bytes());
+        }
+        (0, 0)
+    }
+
+    /// The same behind held symbols.
+    fn pairs_behind(&self, state: Coder, data: &[u8], symbols: &mut [u8]) -> (u8, u8) {
+        let mut packer = Packer::new(symbols, state[2], state[3]);
+        let mut window = state[0].into();
+        for octet in data {
+            window = window << 8 | u32::from(*octet);
+            packer.held = packer.held << 16 | u64::from(self.pair(window));
+            packer.holds += 16;
+            packer.flush();
+        }
+        packer.left()
+    }
 }
 
-/// All octets. N of them are so many periods of P bits that they give M whole octets of symbols, at most eight: they are taken together.
-fn in_groups<const P: usize, const N: usize, const M: usize>(
-    rows: &[Row],
-    state: Coder,
-    data: &[u8],
-    symbols: &mut [u8],
-) -> (Coder, u32) {
-    let [register, place, holds, held] = state;
-    let filled = symbols.len();
-    let rows: [&Row; N] = from_fn(|k| &rows[(place as usize + 8 * k) % P]);
-    let (groups, rest) = data.as_chunks::<N>();
-    let (outputs, last) = symbols.split_at_mut(M * groups.len());
-    let outputs = outputs.as_chunks_mut::<M>().0;
-    let (mut register, held) = whole_groups(rows, groups, outputs, register, holds, held);
-    let mut packer = Packer::new(last, holds, held);
-    for (row, octet) in rows.iter().zip(rest) {
-        packer.held = packer.held << row.count | row.symbols(register, *octet);
-        packer.holds += row.count;
-        register = octet & 63;
+/// C1 and C2 of the eight newest bits, at once.
+fn sums(w: u32) -> (u8, u8) {
+    let first = w ^ w >> 1 ^ w >> 2 ^ w >> 3 ^ w >> 6;
+    let second = w ^ w >> 2 ^ w >> 3 ^ w >> 5 ^ w >> 6;
+    (first as u8, second as u8)
+}
+
+fn punctured(sent: &[(bool, bool)], state: Coder, data: &[u8], symbols: &mut [u8]) -> (u8, u8) {
+    let mut packer = Packer::new(symbols, state[2], state[3]);
+    let mut window = state[0].into();
+    let mut time = state[1] as usize;
+    for octet in data {
+        window = window << 8 | u32::from(*octet);
+        let (c1, c2) = sums(window);
+        for shift in (0..8).rev() {
+            let (first, second) = sent[time];
+            packer.push(u32::from(c1 >> shift), first);
+            packer.push(u32::from(c2 >> shift), second);
+            time = if time + 1 == sent.len() { 0 } else { time + 1 };
+        }
         packer.flush();
     }
-    ran(state, P, data, filled, packer.left())
-}
-
-/// The register and the held symbols that groups of octets leave; the number of those held stays.
-fn whole_groups<const N: usize, const M: usize>(
-    rows: [&Row; N],
-    groups: &[[u8; N]],
-    outputs: &mut [[u8; M]],
-    mut register: u8,
-    holds: u8,
-    held: u8,
-) -> (u8, u8) {
-    // At the top, and what a group sends below them.
-    let mut held = u64::from(held & !(255 >> holds)) << 56;
-    for (group, output) in groups.iter().zip(outputs) {
-        let mut sent = 0;
-        for (row, octet) in rows.iter().zip(group) {
-            sent = sent << row.count | row.symbols(register, *octet);
-            register = octet & 63;
-        }
-        sent <<= 64 - 8 * M;
-        let octets = (held | sent >> holds).to_be_bytes();
-        output.copy_from_slice(&octets[..M]);
-        held = sent.unbounded_shl(8 * M as u32 - u32::from(holds));
-    }
-    (register, (held >> 56) as u8)
+    packer.left()
 }

@@ -4,6 +4,7 @@ mod convolution;
 mod decoder;
 mod encoder;
 mod errors;
+mod groups;
 mod limits;
 mod marker;
 mod portions;
@@ -11,22 +12,25 @@ mod randomiser;
 mod tables;
 
 use crate::calls::{Calls, Code, Coder, State};
-use convolution::ByOctets;
+use convolution::ByWindows;
 use encoder::Encoder;
+use groups::ByTables;
 use randomiser::Sequence;
 use tables::Tables;
 
-/// Which form of decoder and convolutional coder answers; the other calls have one form.
+/// Which form of decoder and convolutional coder answers; the other calls have one form, and the decoder has two.
 pub enum Form {
     Plain,
     Faster,
+    Fastest,
 }
 
 pub struct Baseline {
     form: Form,
     tables: Tables,
     encoder: Encoder,
-    by_octets: ByOctets,
+    by_windows: ByWindows,
+    by_tables: ByTables,
     sequence: Sequence,
 }
 
@@ -37,7 +41,8 @@ impl Baseline {
             form,
             encoder: Encoder::new(&tables),
             tables,
-            by_octets: ByOctets::new(),
+            by_windows: ByWindows::new(),
+            by_tables: ByTables::new(),
             sequence: Sequence::new(),
         }
     }
@@ -75,7 +80,7 @@ impl Calls for Baseline {
                     |code, block: &[u8]| decoder::of_all_symbols(tables, code, block);
                 decoder::decode(tables, syndromes_of, code, s, block, frame, counts)
             }
-            Form::Faster => {
+            Form::Faster | Form::Fastest => {
                 let syndromes_of =
                     |code, block: &[u8]| decoder::of_checks(tables, encoder, code, block);
                 decoder::decode(tables, syndromes_of, code, s, block, frame, counts)
@@ -104,7 +109,8 @@ impl Calls for Baseline {
     ) -> u64 {
         match self.form {
             Form::Plain => convolution::by_bits(rate, state, data, symbols, count),
-            Form::Faster => self.by_octets.convolve(rate, state, data, symbols, count),
+            Form::Faster => self.by_windows.convolve(rate, state, data, symbols, count),
+            Form::Fastest => self.by_tables.convolve(rate, state, data, symbols, count),
         }
     }
 
