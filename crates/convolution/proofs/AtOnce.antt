@@ -47,10 +47,10 @@ low-bit c m w hm even hc =
     sym (ap (λ (x : ℕ). x % 2) (rest ∙ mod-mul (w / c) {m = m} {c = 2} hm (omega arith)) ∙ digits-mod (w / c / 2 % m) (mod-lt (w / c) (omega arith)))
 
 -- It is a vector's sum at every window: of a window the seven lowest bits count.
-abbrev Adds : (ℕ → ℕ) → List ℕ → Type 0
+abbrev pub Adds : (ℕ → ℕ) → List ℕ → Type 0
 Adds f vector = (w : ℕ) → f w % 2 ≡ ones vector (w % 128) % 2
 
-by-g1 : Adds (added 2 4 8 64) g1
+pub by-g1 : Adds (added 2 4 8 64) g1
 by-g1 w =
     let v = w % 128 in
     let a : w % 2 ≡ v % 2 = ap (λ (x : ℕ). x % 2) (omega arith) ∙ low-bit 1 64 w (omega arith) (omega arith) (omega arith) ∙ ap (λ (x : ℕ). x % 2) (omega arith) in
@@ -62,7 +62,7 @@ by-g1 w =
     ∙ ap₂ bitXor (ap₂ bitXor (ap₂ bitXor (ap₂ bitXor a b) c) d) e
     ∙ equal-below (lowest 2 4 8 64) (λ x. ones g1 x % 2) 128 tt v (mod-lt w (omega arith))
 
-by-g2 : Adds (added 4 8 32 64) g2
+pub by-g2 : Adds (added 4 8 32 64) g2
 by-g2 w =
     let v = w % 128 in
     let a : w % 2 ≡ v % 2 = ap (λ (x : ℕ). x % 2) (omega arith) ∙ low-bit 1 64 w (omega arith) (omega arith) (omega arith) ∙ ap (λ (x : ℕ). x % 2) (omega arith) in

@@ -120,8 +120,8 @@ close-gives-held rate s before after answer o none =
     let short : length (heldOf s) ≡ s .holds = held-length s few in
     let held : AreBits (heldOf s) = bits-taken (s .holds) (lowBits 8 (s .held)) (low-bits 8 (s .held)) in (
       ap bitsOf (o .symbols none)
-      ∙ short-packed (heldOf s) held (subst (λ (n : ℕ). n < 8) (sym short) few)
-      ∙ ap₂ (λ (l : List ℕ) (n : ℕ). heldOf s ++ replicate (8 * length l - n) 0) (sym (o .symbols none)) short,
+          ∙ short-packed (heldOf s) held (subst (λ (n : ℕ). n < 8) (sym short) few)
+          ∙ ap₂ (λ (l : List ℕ) (n : ℕ). heldOf s ++ replicate (8 * length l - n) 0) (sym (o .symbols none)) short,
       o .count none,
     )
 

@@ -14,8 +14,9 @@ use Rattle.convolution.specs.declared.State.{State}
 use Rattle.convolution.specs.declared.Ran.{Ran}
 use Rattle.convolution.specs.declared.Convolved.{Convolved}
 use Rattle.convolution.specs.declared.Convolved.the-variants.{Done}
-use Rattle.convolution.specs.Coder.{bitsOf, nextRegister, nextPlace, registerAfter, placeAfter, packed, filled}
+use Rattle.convolution.specs.Coder.{bitsOf, nextPlace, registerAfter, placeAfter, packed, filled}
 use Rattle.convolution.specs.Outcome.{convolvedNumber, convolvedCount, zeroState, heldOf, symbolsOf, toSend, stateAfter, ConvolveOutcome, CloseOutcome}
+use Rattle.convolution.proofs.Symbols.{register-small}
 use Rattle.convolution.proofs.Count.{symbol-count, regular}
 use Rattle.convolution.proofs.Packing.{Cut}
 use Rattle.convolution.proofs.Outcomes.{legal}
@@ -75,10 +76,6 @@ module _ (rate : ℕ) (s : State) (legal : LegalState rate s) where
       record { number = close-none-due before room; refused = λ n. absurd (n refl); count = λ z. refl; symbols = λ z. refl }
 
 -- ---- the state that a call leaves is legal at its rate
-
-register-small : (register : ℕ) (bits : List ℕ) → register < 64 → registerAfter register bits < 64
-register-small register [] h = h
-register-small register (bit ∷ bits) h = register-small (nextRegister register bit) bits (mod-lt _ (omega arith))
 
 place-small : (rate place : ℕ) (bits : List ℕ) → OneOf rates rate → place < period rate → placeAfter rate place bits < period rate
 place-small rate place [] legal h = h

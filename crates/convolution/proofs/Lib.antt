@@ -5,11 +5,15 @@ pub mod Settled
 pub mod Bits
 pub mod Packing
 pub mod Stream
+pub mod Moving
 pub mod AtOnce
 pub mod Spreading
 pub mod Puncturing
 pub mod Filling
+pub mod Turning
+pub mod Pairing
 pub mod Tables
+pub mod Grouping
 pub mod Outcomes
 pub mod Accepting
 pub mod Calls

@@ -185,38 +185,38 @@ second-none p zero (suc n) m y h = absurd (omega arith)
 second-none p (suc a) (suc n) m y h =
     ap₂ (withSecond p (suc a)) (low-first n m) (low-first n y) ∙ ap (λ (l : List ℕ). m / 2 ^ n % 2 ∷ l) (second-none p a n m y (omega arith)) ∙ sym (low-first n m)
 
--- Bits moved up in 32, and others below them.
-module _ (held bits n : ℕ) (few : n ≤ 32) where
+-- Bits moved up in a number of so many bits, and others below them.
+module _ (width held bits n : ℕ) (few : n ≤ width) where
   abbrev kept : ℕ
-  kept = held % 2 ^ (32 - n)
+  kept = held % 2 ^ (width - n)
 
-  moved-up : held * 2 ^ n % 2 ^ 32 ≡ kept * 2 ^ n
+  moved-up : held * 2 ^ n % 2 ^ width ≡ kept * 2 ^ n
   moved-up =
-      let sum : 32 ≡ (32 - n) + n = omega arith in
-      let all : 2 ^ 32 ≡ 2 ^ (32 - n) * 2 ^ n = ap (λ (m : ℕ). 2 ^ m) sum ∙ pow-add 2 (32 - n) n in
+      let sum : width ≡ (width - n) + n = omega arith in
+      let all : 2 ^ width ≡ 2 ^ (width - n) * 2 ^ n = ap (λ (m : ℕ). 2 ^ m) sum ∙ pow-add 2 (width - n) n in
       let none : held * 2 ^ n ≡ held * 2 ^ n + 0 = omega arith in
       ap (λ (m : ℕ). held * 2 ^ n % m) all
-      ∙ mod-mul (held * 2 ^ n) {m = 2 ^ (32 - n)} {c = 2 ^ n} (pow-pos (32 - n)) (pow-pos n)
-      ∙ ap₂ (λ (x y : ℕ). (x % 2 ^ (32 - n)) * 2 ^ n + y)
+      ∙ mod-mul (held * 2 ^ n) {m = 2 ^ (width - n)} {c = 2 ^ n} (pow-pos (width - n)) (pow-pos n)
+      ∙ ap₂ (λ (x y : ℕ). (x % 2 ^ (width - n)) * 2 ^ n + y)
       (ap (λ (x : ℕ). x / 2 ^ n) none ∙ digits-div held (pow-pos n))
       (ap (λ (x : ℕ). x % 2 ^ n) none ∙ digits-mod held (pow-pos n))
       ∙ omega arith
 
-  pub fits-below : held * 2 ^ n % 2 ^ 32 + bits % 2 ^ n < 2 ^ 32
+  pub fits-below : held * 2 ^ n % 2 ^ width + bits % 2 ^ n < 2 ^ width
   fits-below =
-      let sum : (32 - n) + n ≡ 32 = omega arith in
-      let all : 2 ^ (32 - n) * 2 ^ n ≡ 2 ^ 32 = sym (pow-add 2 (32 - n) n) ∙ ap (λ (m : ℕ). 2 ^ m) sum in
-      subst (λ (m : ℕ). m + bits % 2 ^ n < 2 ^ 32) (sym moved-up)
-      (subst (λ (m : ℕ). kept * 2 ^ n + bits % 2 ^ n < m) all (digits-lt (mod-lt held (pow-pos (32 - n))) (mod-lt bits (pow-pos n))))
+      let sum : (width - n) + n ≡ width = omega arith in
+      let all : 2 ^ (width - n) * 2 ^ n ≡ 2 ^ width = sym (pow-add 2 (width - n) n) ∙ ap (λ (m : ℕ). 2 ^ m) sum in
+      subst (λ (m : ℕ). m + bits % 2 ^ n < 2 ^ width) (sym moved-up)
+      (subst (λ (m : ℕ). kept * 2 ^ n + bits % 2 ^ n < m) all (digits-lt (mod-lt held (pow-pos (width - n))) (mod-lt bits (pow-pos n))))
 
-  pub joined-below : Joined held bits n (held * 2 ^ n % 2 ^ 32 + bits % 2 ^ n)
+  pub joined-below : Joined width held bits n (held * 2 ^ n % 2 ^ width + bits % 2 ^ n)
   joined-below h room =
       let v = kept * 2 ^ n + bits % 2 ^ n in
       let small : bits % 2 ^ n < 2 ^ n = mod-lt bits (pow-pos n) in
       ap (λ (x : ℕ). lowBits (h + n) (x + bits % 2 ^ n)) moved-up
       ∙ low-split h n v
       ∙ ap₂ _++_
-      (ap (lowBits h) (digits-div kept small) ∙ low-mod h (32 - n) held (omega arith))
+      (ap (lowBits h) (digits-div kept small) ∙ low-mod h (width - n) held (omega arith))
       (sym (low-mod n n v (omega arith)) ∙ ap (lowBits n) (digits-mod kept small) ∙ low-mod n n bits (omega arith))
 
 pub one-up : (n : ℕ) → n ≤ 8 → 1 * 2 ^ n % 2 ^ 32 ≡ 2 ^ n

@@ -97,7 +97,7 @@ octets-out rate written before after bits whole full kept ready keeps e =
     ∙ e
 
 -- Octets, held symbols and what is to come, by their numbers.
-lengths : (front whole rest : List ℕ) (n held : ℕ) → bitsOf front ++ (lowBits n held ++ rest) ≡ whole → length whole ≡ 8 * length front + (n + length rest)
+pub lengths : (front whole rest : List ℕ) (n held : ℕ) → bitsOf front ++ (lowBits n held ++ rest) ≡ whole → length whole ≡ 8 * length front + (n + length rest)
 lengths front whole rest n held e =
     ap length (sym e)
     ∙ length-append (bitsOf front) (lowBits n held ++ rest)

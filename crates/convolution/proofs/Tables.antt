@@ -14,13 +14,13 @@ use Rattle.convolution.specs.Working.{patternsFrom, Rows}
 use Rattle.convolution.proofs.Count.{each-rate}
 
 -- A test of two lists.
-abbrev same : List ℕ → List ℕ → Bool
+abbrev pub same : List ℕ → List ℕ → Bool
 same [] [] = true
 same [] (y ∷ ys) = false
 same (x ∷ xs) [] = false
 same (x ∷ xs) (y ∷ ys) = both (eqb x y) (same xs ys)
 
-same-lists : (xs ys : List ℕ) → T (same xs ys) → xs ≡ ys
+pub same-lists : (xs ys : List ℕ) → T (same xs ys) → xs ≡ ys
 same-lists [] [] t = refl
 same-lists [] (y ∷ ys) t = absurd t
 same-lists (x ∷ xs) [] t = absurd t

@@ -2,3 +2,4 @@
 pub mod Coder
 pub mod Outcome
 pub mod Working
+pub mod GroupWorking

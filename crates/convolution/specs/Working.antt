@@ -72,9 +72,9 @@ abbrev pub placeBefore : ℕ → ℕ → ℕ
 placeBefore p zero = 0
 placeBefore p (suc n) = p - suc n
 
--- The n lowest of some bits stand below the held symbols, of however few these are.
-abbrev pub Joined : ℕ → ℕ → ℕ → ℕ → Type 0
-Joined held bits n r = (h : ℕ) → h + n ≤ 32 → lowBits (h + n) r ≡ lowBits h held ++ lowBits n bits
+-- The n lowest of some bits stand below the held symbols, of however few these are, in a number of so many bits.
+abbrev pub Joined : ℕ → ℕ → ℕ → ℕ → ℕ → Type 0
+Joined width held bits n r = (h : ℕ) → h + n ≤ width → lowBits (h + n) r ≡ lowBits h held ++ lowBits n bits
 
 -- The bits up to the next that begins a period joined the held ones, and its C2.
 pub record Begun (p : ℕ) (s : Picking) (merged second : ℕ) (r : Picking) : Type 0 where

@@ -1,9 +1,12 @@
 // The convolutional coder, which runs on from call to call until it is closed.
+mod groups;
 mod octet;
+mod pairs;
 mod patterns;
 mod picks;
 mod running;
 mod sums;
+mod turns;
 mod writing;
 
 ghost use Rattle.convolution.specs.Outcome.{ConvolveOutcome, CloseOutcome};
@@ -48,6 +51,28 @@ struct Picking {
     holds: usize,
     left: usize,
     ahead: usize,
+}
+
+// Where a call stands: its state, how many octets are read, and how many written.
+struct Progress {
+    flow: Flow,
+    read: usize,
+    written: usize,
+}
+
+// A group of octets that is whole periods, and whole octets of symbols: how many octets it is, how many its symbols fill, and, a bit for each of its own,
+// of which C1 is the last symbol sent, of which C2, and which begin a period, of which C1 is sent before C2. Then the bits that move up, by 8, 4, 2 and 1, to
+// make room for those before.
+struct Group {
+    octets: usize,
+    filled: usize,
+    first: u64,
+    second: u64,
+    begins: u64,
+    eights: u64,
+    fours: u64,
+    twos: u64,
+    ones: u64,
 }
 
 pub fn convolve(rate: u32, state: State, octets: &[u8], symbols: &mut [u8]) -> Ran

@@ -38,7 +38,7 @@ fn merged(mask: u8, first: u32, second: u32) -> u32
 // So many of the lowest bits, below the symbols held.
 fn joined(held: u32, bits: u32, n: usize) -> u32
     requires { ⌜ n ≤ 8 ⌝ }
-    ensures { λ r. ⌜ Joined held bits n r ⌝ }
+    ensures { λ r. ⌜ Joined 32 held bits n r ⌝ }
 {
     (held << n) + (bits & ((1 << n) - 1))
 }

@@ -9,16 +9,18 @@ ghost use Rattle.convolution.specs.Coder.{bitsOf};
 ghost use Rattle.convolution.specs.Working.{stream, Rows, Sound, Opened, Handed, Run, Accepted};
 use crate::Convolved;
 use crate::Flow;
+use crate::Progress;
 use crate::Ran;
 use crate::State;
-use crate::octet::octet_in;
+use crate::groups::group_of;
+use crate::pairs::pairs_in;
 use crate::patterns::C1_SENT;
 use crate::patterns::PERIODS;
 use crate::patterns::row_of;
-use crate::writing::kept;
+use crate::turns::one_in;
+use crate::turns::turn;
 use crate::writing::last_octet;
 use crate::writing::top_bits;
-use crate::writing::write_ready;
 
 fn opened(state: State) -> Flow
     requires { ⌜ state .holds < 8 ⌝ }
@@ -45,6 +47,30 @@ fn handed(flow: Flow) -> State
     }
 }
 
+fn groups_in(
+    rate: u32,
+    period: usize,
+    c1: &[u8; 7],
+    octets: &[u8],
+    symbols: &mut [u8],
+    start: Flow,
+) -> Flow
+    requires { ⌜ Rows rate period (now c1) × Sound rate start × (length (stream rate start (bitsOf (now octets))) / 8 ≤ length (now symbols)) × (rate ≡ 1 → ⊥) ⌝ }
+    ensures { λ r. ⌜ Run rate start (bitsOf (now (octets .entry))) r (now (symbols .exit)) ⌝ }
+{
+    let group = group_of(rate);
+    let mut at = Progress {
+        flow: start,
+        read: 0,
+        written: 0,
+    };
+    while at.read < octets.len() {
+        at = turn(rate, period, c1, group, octets, symbols, at);
+    }
+    at.flow
+}
+
+// Rate 1/2 has a loop of its own: its octets are too quick for a choice in each turn.
 fn all_in(
     rate: u32,
     period: usize,
@@ -56,15 +82,21 @@ fn all_in(
     requires { ⌜ Rows rate period (now c1) × Sound rate start × (length (stream rate start (bitsOf (now octets))) / 8 ≤ length (now symbols)) ⌝ }
     ensures { λ r. ⌜ Run rate start (bitsOf (now (octets .entry))) r (now (symbols .exit)) ⌝ }
 {
-    let mut state = start;
-    let mut written = 0;
-    for i in 0..octets.len() {
-        let full = octet_in(rate, period, c1, state, octets[i]);
-        write_ready(symbols, written, full.held, full.holds);
-        written = written + full.holds / 8;
-        state = kept(full);
+    if rate != 1 {
+        return groups_in(rate, period, c1, octets, symbols, start);
     }
-    state
+    if start.holds == 0 {
+        return pairs_in(period, c1, octets, symbols, start);
+    }
+    let mut at = Progress {
+        flow: start,
+        read: 0,
+        written: 0,
+    };
+    while at.read < octets.len() {
+        at = one_in(rate, period, c1, octets, symbols, at);
+    }
+    at.flow
 }
 
 // The symbols that came in, of those written and those held before and after.

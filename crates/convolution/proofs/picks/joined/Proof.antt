@@ -25,12 +25,12 @@ sub-result : tie.Need-sub-result
 sub-result c = omega (arith, one-up (c .args .n) (c .pre), pow-pos (c .args .n))
 
 add-result : tie.Need-add-result
-add-result c = omega (arith, lowest-masked (c .args .bits) (c .args .n) (c .pre), fits-below (c .args .held) (c .args .bits) (c .args .n) (omega arith))
+add-result c = omega (arith, lowest-masked (c .args .bits) (c .args .n) (c .pre), fits-below 32 (c .args .held) (c .args .bits) (c .args .n) (omega arith))
 
 returns : tie.Need-returns
 returns c = λ h room.
     ap (λ (v : ℕ). lowBits (h + c .args .n) (c .args .held * 2 ^ c .args .n % 2 ^ 32 + v)) (lowest-masked (c .args .bits) (c .args .n) (c .pre))
-    ∙ joined-below (c .args .held) (c .args .bits) (c .args .n) (omega arith) h room
+    ∙ joined-below 32 (c .args .held) (c .args .bits) (c .args .n) (omega arith) h room
 
 pub joined-spec : {M : Type 1} → statement M
 joined-spec =
