@@ -2,7 +2,7 @@
 -- after calls from the zero state completes the packed symbols of document 01.
 use mathlib.Core.Path.{_≡_, sym, ap, ap₂, _∙_, subst}
 use mathlib.Core.List.{List, _++_, append-assoc}
-use Prim.Native.Nat.{ℕ, _+_, _-_, _*_, _/_, _%_, _^_, _<_}
+use Prim.Native.Nat.{ℕ, _+_, _-_, _*_, _/_, _<_}
 use lib.ListN.{length, replicate, length-append}
 use Rattle.refusals.specs.Order.{FirstOf, OneOf}
 use Rattle.refusals.specs.Sizes.{period, rates}
@@ -15,8 +15,8 @@ use Rattle.convolution.specs.Outcome.{convolvedNumber, convolvedCount, z
 use Rattle.convolution.proofs.Bits.{bits-append}
 use Rattle.convolution.proofs.Symbols.{symbols-append, register-append, place-append}
 use Rattle.convolution.proofs.Count.{symbol-count-anew}
-use Rattle.convolution.proofs.Packing.{AreBits, bits-joined, bits-taken, bits-dropped, low-bits, symbols-bits, Cut, cut-into, cut-further, cut-filled, cut-left, cut-length, cut-packed, held-back, zeros-below, short-packed}
-use Rattle.convolution.proofs.Outcomes.{legal, legal-close}
+use Rattle.convolution.proofs.Packing.{AreBits, bits-joined, bits-taken, bits-dropped, low-bits, symbols-bits, Cut, cut-into, cut-further, cut-filled, cut-left, cut-length, cut-packed, held-back, short-packed}
+use Rattle.convolution.proofs.Outcomes.{legal-close}
 use Rattle.convolution.proofs.Accepting.{same-state, held-length}
 
 -- ---- two inputs one after the other

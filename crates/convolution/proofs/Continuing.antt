@@ -1,10 +1,10 @@
 -- The coder can go on: legal numbers and the right lengths are accepted, and an accepted call leaves legal numbers for the next.
 use mathlib.Core.Path.{_≡_, refl, sym, ap, ap₂, _∙_, subst}
-use mathlib.Core.List.{List, [], _∷_, _++_}
+use mathlib.Core.List.{List, [], _∷_}
 use Prim.Native.Nat.{ℕ, _+_, _-_, _/_, _≤_, _<_}
 use native.Mathlib.Nat.{mod-lt}
 use native.Mathlib.Omega.{arith}
-use lib.ListN.{length, length-append, replicate}
+use lib.ListN.{length, length-append}
 use Rattle.refusals.specs.Order.{Check, FirstOf, OneOf}
 use Rattle.refusals.specs.Sizes.{period, rates, symbolCount, octetsFor}
 use Rattle.refusals.specs.Calls.{convolveOrder, coderCloseOrder}
@@ -14,11 +14,10 @@ use Rattle.convolution.specs.declared.State.{State}
 use Rattle.convolution.specs.declared.Ran.{Ran}
 use Rattle.convolution.specs.declared.Convolved.{Convolved}
 use Rattle.convolution.specs.declared.Convolved.the-variants.{Done}
-use Rattle.convolution.specs.Coder.{bitsOf, nextPlace, registerAfter, placeAfter, packed, filled}
-use Rattle.convolution.specs.Outcome.{convolvedNumber, convolvedCount, zeroState, heldOf, symbolsOf, toSend, stateAfter, ConvolveOutcome, CloseOutcome}
+use Rattle.convolution.specs.Coder.{bitsOf, nextPlace, placeAfter, packed, filled}
+use Rattle.convolution.specs.Outcome.{convolvedNumber, zeroState, heldOf, symbolsOf, toSend, stateAfter, ConvolveOutcome, CloseOutcome}
 use Rattle.convolution.proofs.Symbols.{register-small}
 use Rattle.convolution.proofs.Count.{symbol-count, regular}
-use Rattle.convolution.proofs.Packing.{Cut}
 use Rattle.convolution.proofs.Outcomes.{legal}
 use Rattle.convolution.proofs.Accepting.{held-length}
 use Rattle.convolution.proofs.Calls.{Calls, whole-cut, calls-joined}

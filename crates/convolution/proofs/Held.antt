@@ -1,5 +1,5 @@
 -- The octet of the held symbols: what stands below them is zero on return, and on entry changes nothing.
-use mathlib.Core.Path.{_≡_, refl, sym, ap, ap₂, _∙_, subst}
+use mathlib.Core.Path.{_≡_, sym, ap, ap₂, _∙_, subst}
 use mathlib.Core.List.{List, _++_}
 use Prim.Native.Nat.{ℕ, _-_, _*_, _/_, _%_, _^_}
 use lib.ListN.{length}
@@ -10,7 +10,7 @@ use Rattle.convolution.specs.declared.State.{State}
 use Rattle.convolution.specs.declared.Ran.{Ran}
 use Rattle.convolution.specs.declared.Convolved.{Convolved}
 use Rattle.convolution.specs.Coder.{bitsOf, symbolsFrom, registerAfter, placeAfter, firstOctet, packed, filled, left}
-use Rattle.convolution.specs.Outcome.{convolvedNumber, convolvedCount, heldOf, symbolsOf, toSend, stateAfter, ConvolveOutcome, CloseOutcome}
+use Rattle.convolution.specs.Outcome.{convolvedNumber, heldOf, symbolsOf, toSend, stateAfter, ConvolveOutcome, CloseOutcome}
 use Rattle.convolution.proofs.Packing.{bits-dropped, zeros-below}
 use Rattle.convolution.proofs.Settled.{convolved-known, either-way}
 use Rattle.convolution.proofs.Accepting.{same-state}

@@ -1,12 +1,12 @@
 -- Rate 1/2 with nothing held: the symbols of octets one after the other, two octets for each.
-use mathlib.Core.Path.{_≡_, refl, sym, ap, ap₂, _∙_, subst}
+use mathlib.Core.Path.{_≡_, refl, sym, ap, ap₂, _∙_}
 use mathlib.Core.List.{List, [], _∷_, _++_, append-nil}
 use mathlib.Core.Logic.{inl}
 use Prim.Native.Nat.{ℕ, _+_, _-_, _*_, _/_, _%_, _≤_, _<_}
 use native.Mathlib.Nat.{mod-lt}
 use native.Mathlib.Numerals.{add-one}
 use native.Mathlib.Omega.{arith}
-use lib.ListN.{length, getD, take, length-append}
+use lib.ListN.{length, getD, take}
 use lib.Seq.{take-suc, take-length}
 use Rattle.convolution.specs.declared.Flow.{Flow}
 use Rattle.convolution.specs.Coder.{lowBits, bitsOf, symbolsFrom, registerAfter, placeAfter}

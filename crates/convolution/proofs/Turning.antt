@@ -2,7 +2,7 @@
 use mathlib.Core.Path.{_≡_, refl, sym, ap, ap₂, _∙_, subst}
 use mathlib.Core.Logic.{_⊎_, ⊎-elim}
 use mathlib.Core.List.{List, [], _∷_, _++_, append-assoc, append-nil}
-use Prim.Native.Nat.{ℕ, zero, suc, _+_, _-_, _*_, _/_, _%_, _^_, _≤_, _<_}
+use Prim.Native.Nat.{ℕ, _+_, _-_, _*_, _/_, _%_, _^_, _≤_, _<_}
 use native.Mathlib.Nat.{mod-lt, mod-eq-of-lt, div-lt-iff-lt-mul}
 use native.Mathlib.Numerals.{add-one}
 use native.Mathlib.Omega.{arith}
@@ -14,13 +14,13 @@ use Rattle.convolution.specs.declared.Flow.{Flow}
 use Rattle.convolution.specs.declared.Group.{Group}
 use Rattle.convolution.specs.declared.Progress.{Progress}
 use Rattle.convolution.specs.Coder.{lowBits, bitsOf, g1, g2, symbolsFrom, registerAfter, placeAfter}
-use Rattle.convolution.specs.Working.{stream, sumsOf, allInverted, pickedFrom, Sound, Filled, Ready, Kept, Run}
+use Rattle.convolution.specs.Working.{stream, sumsOf, pickedFrom, Sound, Filled, Ready, Kept, Run}
 use Rattle.convolution.specs.GroupWorking.{SumsBy, symbolsBy, Grouped, Put, wholeOf, Underway, Turned}
 use Rattle.convolution.proofs.Bits.{low-split, low-mod, low-length, bits-append}
 use Rattle.convolution.proofs.Symbols.{symbols-append, register-append, place-append}
 use Rattle.convolution.proofs.AtOnce.{register-at, symbols-picked, none-inverted}
 use Rattle.convolution.proofs.Puncturing.{fits-below, joined-below}
-use Rattle.convolution.proofs.Stream.{octet-written, octet-gone, octets-out, room, lengths, ended}
+use Rattle.convolution.proofs.Stream.{octet-gone, octets-out, room, lengths, ended}
 
 -- ---- octets read below a register
 

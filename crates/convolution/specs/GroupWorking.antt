@@ -5,7 +5,6 @@ use mathlib.Core.List.{List, _++_}
 use Prim.Native.Nat.{ℕ, _+_, _*_, _/_, _%_, _^_, _≤_, _<_}
 use lib.Bits.{bitXor, bitAnd}
 use lib.ListN.{length, take, drop}
-use Rattle.refusals.specs.Sizes.{period}
 use Rattle.convolution.specs.declared.Group.{Group}
 use Rattle.convolution.specs.declared.Progress.{Progress}
 use Rattle.convolution.specs.Coder.{lowBits, bitsOf, symbolsFrom, registerAfter, placeAfter}

@@ -4,21 +4,14 @@ ghost use mathlib.Core.Path.{_≡_};
 ghost use Prim.Native.Nat.{_+_, _*_, _≤_, _<_};
 ghost use lib.ListN.{length};
 ghost use Rattle.convolution.specs.Coder.{bitsOf};
-ghost use Rattle.convolution.specs.Working.{stream, Rows, Sound, Run};
+ghost use Rattle.convolution.specs.Working.{Rows, Sound, Run};
 ghost use Rattle.convolution.specs.GroupWorking.{PairPut};
 use crate::Flow;
 use crate::octet::octet_in;
 use crate::writing::write_ready;
 
 // The two octets of an octet that comes after a register, the first at `at`.
-fn put_pair(
-    period: usize,
-    c1: &[u8; 7],
-    symbols: &mut [u8],
-    at: usize,
-    register: u32,
-    octet: u8,
-)
+fn put_pair(period: usize, c1: &[u8; 7], symbols: &mut [u8], at: usize, register: u32, octet: u8)
     requires { ⌜ Rows 1 period (now c1) × (register < 64) × (at + 2 ≤ length (now symbols)) ⌝ }
     ensures { λ _. ⌜ PairPut (now (symbols .entry)) at register octet (now (symbols .exit)) ⌝ }
 {

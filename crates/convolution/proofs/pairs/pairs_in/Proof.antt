@@ -1,15 +1,12 @@
-use mathlib.Core.Path.{_≡_, refl, sym, ap, ap₂, _∙_, subst}
-use mathlib.Core.Logic.{⊎-elim}
-use Prim.Native.Nat.{ℕ, _≤_, _-_, _<_, _+_}
-use native.Mathlib.Omega.{arith}
-use lib.ListN.{length, getD, drop, take}
+-- `pairs_in` meets its contract. The loop's invariant: if the first octet is paired, from whatever register, so are all octets so far.
 use borrow.Author.Needs.{needs}
-use Rattle.convolution.proofs.Pairing.{Paired, paired-first, paired-on, pairs-room, nothing-in, all-paired}
+use mathlib.Core.Path.{_≡_, refl, _∙_, subst}
+use Prim.Native.Nat.{ℕ, _-_, _≤_, _<_}
+use native.Mathlib.Omega.{arith}
+use lib.ListN.{length}
+use Rattle.convolution.proofs.Pairing.{Paired, paired-first, paired-on, nothing-in, all-paired}
 use Rattle.convolution.proofs.pairs.pairs_in.Statement.{statement}
 use Rattle.convolution.proofs.pairs.pairs_in.Tie as tie
-use Rattle.convolution.proofs.pairs.pairs_in.Reads as reads
-use Rattle.convolution.proofs.pairs.pairs_in.Lts as lts
-use Rattle.convolution.proofs.pairs.put_pair.Reads as put-pair-reads
 
 abbrev Inv-loop : tie.InvT-loop
 Inv-loop period c1 octets symbols₀ n i₀ symbols i =
@@ -21,87 +18,68 @@ Inv-loop period c1 octets symbols₀ n i₀ symbols i =
 abbrev μ-loop : tie.MeasureT-loop
 μ-loop period c1 octets symbols₀ n i₀ symbols i = n - i
 
--- src/pairs.rt:47:9
 returns : tie.Need-returns Inv-loop μ-loop
 returns c =
     let start = c .before .before .before in
     nothing-in (start .args .start) (start .args .octets .now) (start .args .symbols .now) (start .pre .1) (start .pre .2) (c .if1 .taken)
 
--- src/pairs.rt:49:54
 shared-slice-read-put-pair : tie.Need-shared-slice-read-put-pair Inv-loop μ-loop
 shared-slice-read-put-pair c = search needs
 
--- src/pairs.rt:49:5
 put-pair-requires : tie.Need-put-pair-requires Inv-loop μ-loop
 put-pair-requires c κs = search needs
 
--- src/pairs.rt:50:5
 loop-holds : tie.Need-loop-holds Inv-loop μ-loop
 loop-holds c = (omega arith, omega (arith, c .before .before .before .before .before .if1 .left), refl, λ r h p. p)
 
--- src/pairs.rt:55:13
 mul-put-pair : tie.Need-mul-put-pair Inv-loop μ-loop
 mul-put-pair c = search needs
 
--- src/pairs.rt:56:21
 sub-put-pair : tie.Need-sub-put-pair Inv-loop μ-loop
 sub-put-pair c = search needs
 
--- src/pairs.rt:56:14
 shared-slice-read-put-pair-2 : tie.Need-shared-slice-read-put-pair-2 Inv-loop μ-loop
 shared-slice-read-put-pair-2 c = search needs
 
--- src/pairs.rt:56:13
 cast-put-pair : tie.Need-cast-put-pair Inv-loop μ-loop
 cast-put-pair c = search needs
 
--- src/pairs.rt:57:13
 shared-slice-read-put-pair-3 : tie.Need-shared-slice-read-put-pair-3 Inv-loop μ-loop
 shared-slice-read-put-pair-3 c = search needs
 
--- src/pairs.rt:51:9
 put-pair-requires-2 : tie.Need-put-pair-requires-2 Inv-loop μ-loop
 put-pair-requires-2 c κs = search needs
 
--- src/pairs.rt:50:9
 add-i : tie.Need-add-i Inv-loop μ-loop
 add-i c = search needs
 
--- src/pairs.rt:50:5
 loop-less : tie.Need-loop-less Inv-loop μ-loop
 loop-less c = search needs
 
--- src/pairs.rt:50:5
 loop-again : tie.Need-loop-again Inv-loop μ-loop
 loop-again c =
     let start = c .before .before .before .before .before .before .before .before .before .before .before .before .before .before .before .before in
     let at = c .before .before .before .before .before .before .before .loop in
     let octets = start .args .octets .now in
-    let inside : at .i < length octets = omega arith in
-    (
+    let inside : at .i < length octets = omega arith in (
       omega arith,
       omega arith,
       c .before .before .put-pair2 .ensures .long ∙ at .inv .2,
       λ r six first. paired-on r octets six (at .i) (at .symbols) _ (at .inv .0) inside (omega (arith, c .before .before .before .before .before .before .before .before .before .before .before .before .before .before .before .shared-slice-known .given (at .i - 1))) (c .before .before .put-pair2 .ensures) (at .inv .3 r six first),
     )
 
--- src/pairs.rt:61:27
 sub-t26 : tie.Need-sub-t26 Inv-loop μ-loop
 sub-t26 c = search needs
 
--- src/pairs.rt:61:20
 shared-slice-read-t13 : tie.Need-shared-slice-read-t13 Inv-loop μ-loop
 shared-slice-read-t13 c = search needs
 
--- src/pairs.rt:61:19
 cast-t29 : tie.Need-cast-t29 Inv-loop μ-loop
 cast-t29 c = search needs
 
--- src/pairs.rt:35:1
 same-length : tie.Need-same-length Inv-loop μ-loop
 same-length c = search needs
 
--- src/pairs.rt:35:1
 returns-2 : tie.Need-returns-2 Inv-loop μ-loop
 returns-2 c =
     let start = c .before .before .before .before .before .before .before .before .before .before .before in

@@ -1,5 +1,4 @@
 -- `turn` meets its contract, whichever of the two it takes.
-use borrow.Author.Needs.{needs}
 use native.Mathlib.Omega.{arith}
 use Rattle.convolution.proofs.turns.turn.Statement.{statement}
 use Rattle.convolution.proofs.turns.turn.Tie as tie

@@ -1,9 +1,9 @@
 -- `window_of` meets its contract. The loop's invariant: the register stands above the octets read.
 use borrow.Author.Needs.{needs}
-use mathlib.Core.Path.{_≡_, refl, sym, ap, _∙_, subst}
+use mathlib.Core.Path.{_≡_, refl, sym, _∙_, subst}
 use Prim.Native.Nat.{ℕ, _≤_, _-_, _<_, _+_, _*_, _/_, _^_}
 use native.Mathlib.Omega.{arith}
-use lib.ListN.{length, getD, drop, take}
+use lib.ListN.{getD, drop, take}
 use Rattle.convolution.specs.Coder.{lowBits, bitsOf}
 use Rattle.convolution.proofs.Turning.{window-small, window-above, window-below}
 use Rattle.convolution.proofs.turns.window_of.Statement.{statement}

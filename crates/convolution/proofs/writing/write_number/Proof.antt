@@ -1,8 +1,8 @@
 -- `write_number` meets its contract. The loop's invariant: the octets written, and the bits of those to come, are what was there and all the bits.
 use borrow.Author.Needs.{needs}
-use mathlib.Core.List.{List, _++_, append-nil}
+use mathlib.Core.List.{_++_, append-nil}
 use mathlib.Core.Path.{_≡_, refl, sym, ap, ap₂, _∙_}
-use Prim.Native.Nat.{ℕ, _≤_, _-_, _<_, _+_, _*_}
+use Prim.Native.Nat.{ℕ, _≤_, _-_, _+_, _*_}
 use native.Mathlib.Omega.{arith}
 use lib.ListN.{length, take, set, length-set}
 use Rattle.convolution.specs.Coder.{lowBits, bitsOf}

@@ -1,8 +1,7 @@
 -- `coder_parameters` looks at the rate, then at the register, the place and the number of symbols held.
 use borrow.Author.Needs.{needs}
-use mathlib.Core.Path.{refl, subst}
+use mathlib.Core.Path.{refl}
 use mathlib.Core.Logic.{inl, inr}
-use Prim.Native.Nat.{ℕ, _≤_}
 use native.Mathlib.Omega.{arith}
 use Rattle.refusals.specs.Order.{OneOf}
 use Rattle.refusals.specs.Sizes.{rates}
