@@ -7,6 +7,37 @@ ghost use Rattle.convolution.specs.Coder.{g1, g2};
 ghost use Rattle.convolution.specs.GroupWorking.{SumsBy, movedUp, spreadBy, symbolsBy, Grouped};
 use crate::Group;
 
+// At the two rates of the longer periods.
+fn longer_group(rate: u32) -> Group
+    requires { ⌜ OneOf rates rate × (3 < rate) ⌝ }
+    ensures { λ r. ⌜ Grouped rate r ⌝ }
+{
+    if rate == 4 {
+        return Group {
+            octets: 5,
+            filled: 6,
+            first: 0x294a5294a5,
+            second: 0xd6b5ad6b5a,
+            begins: 0x8421084210,
+            eights: 0,
+            fours: 0xfffff00000,
+            twos: 0xffc000ffc00,
+            ones: 0x3e03e03e03e0,
+        };
+    }
+    Group {
+        octets: 7,
+        filled: 8,
+        first: 0xa142850a14285,
+        second: 0xf5ebd7af5ebd7a,
+        begins: 0x81020408102040,
+        eights: 0,
+        fours: 0xfffffff0000000,
+        twos: 0xfffc0000fffc000,
+        ones: 0x3f803f803f803f80,
+    }
+}
+
 // By the rate; rate 1/2 goes without.
 pub(crate) fn group_of(rate: u32) -> Group
     requires { ⌜ OneOf rates rate × (rate ≡ 1 → ⊥) ⌝ }
@@ -38,30 +69,7 @@ pub(crate) fn group_of(rate: u32) -> Group
             ones: 0x3838383838383838,
         };
     }
-    if rate == 4 {
-        return Group {
-            octets: 5,
-            filled: 6,
-            first: 0x294a5294a5,
-            second: 0xd6b5ad6b5a,
-            begins: 0x8421084210,
-            eights: 0,
-            fours: 0xfffff00000,
-            twos: 0xffc000ffc00,
-            ones: 0x3e03e03e03e0,
-        };
-    }
-    Group {
-        octets: 7,
-        filled: 8,
-        first: 0xa142850a14285,
-        second: 0xf5ebd7af5ebd7a,
-        begins: 0x81020408102040,
-        eights: 0,
-        fours: 0xfffffff0000000,
-        twos: 0xfffc0000fffc000,
-        ones: 0x3f803f803f803f80,
-    }
+    longer_group(rate)
 }
 
 // As `sums_by_g1`, but of as many bits as the window has below the register.

@@ -1,10 +1,10 @@
 -- `group_of` meets its contract, by the test of each rate's group.
-use mathlib.Core.Path.{_≡_, sym, subst}
+use mathlib.Core.Path.{sym, subst}
 use Prim.Native.Nat.{ℕ}
 use native.Mathlib.Omega.{arith}
 use Rattle.refusals.proofs.Legal.{rate-bounds}
 use Rattle.convolution.specs.GroupWorking.{Grouped}
-use Rattle.convolution.proofs.Grouping.{grouped-2, grouped-3, grouped-4, grouped-5}
+use Rattle.convolution.proofs.Grouping.{grouped-2, grouped-3}
 use Rattle.convolution.proofs.groups.group_of.Statement.{statement}
 use Rattle.convolution.proofs.groups.group_of.Tie as tie
 
@@ -14,14 +14,13 @@ returns c = subst (λ (r : ℕ). Grouped r _) (sym (c .if1 .taken)) grouped-2
 returns-2 : tie.Need-returns-2
 returns-2 c = subst (λ (r : ℕ). Grouped r _) (sym (c .if2 .taken)) grouped-3
 
-returns-3 : tie.Need-returns-3
-returns-3 c = subst (λ (r : ℕ). Grouped r _) (sym (c .if3 .taken)) grouped-4
+longer-group-requires : tie.Need-longer-group-requires
+longer-group-requires c κs =
+    let start = c .before .before in
+    (start .pre .0, omega (arith, rate-bounds (start .args .rate) (start .pre .0), start .pre .1, c .if2 .left, c .before .if1 .left))
 
-returns-4 : tie.Need-returns-4
-returns-4 c =
-    let start = c .before .before .before in
-    let five : start .args .rate ≡ 5 = omega (arith, rate-bounds (start .args .rate) (start .pre .0), start .pre .1, c .if3 .left, c .before .if2 .left, c .before .before .if1 .left) in
-    subst (λ (r : ℕ). Grouped r _) (sym five) grouped-5
+returns-3 : tie.Need-returns-3
+returns-3 c = c .longer-group .ensures
 
 pub group-of-spec : {M : Type 1} → statement M
-group-of-spec = tie.close (tie.spec returns returns-2 returns-3 returns-4)
+group-of-spec = tie.close (tie.spec returns returns-2 longer-group-requires returns-3)
