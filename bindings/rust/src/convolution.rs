@@ -42,7 +42,7 @@ pub const fn symbols_len(rate: u32, data_len: usize) -> Result<usize, Refusal> {
 
 /// Convolutional symbols of at most 2,044 octets at rates 1 to 5 (1/2, 2/3, 3/4, 5/6, 7/8), packed top bit first, the last octet
 /// filled with zeros; gives the number of symbols. It is one [`push`](Convolver::push) into a new coder, and its
-/// [`close`](Convolver::close), with [`symbols_len`] octets for both. Refuses by 7, 5, 6.
+/// [`finish`](Convolver::finish), with [`symbols_len`] octets for both. Refuses by 7, 5, 6.
 pub fn convolve(rate: u32, data: &[u8], symbols: &mut [u8]) -> Result<u32, Refusal> {
     // Judged before the first call, since a close refused after it would leave the octets that it wrote.
     if symbols.len() != symbols_len(rate, data.len())? {
@@ -51,7 +51,7 @@ pub fn convolve(rate: u32, data: &[u8], symbols: &mut [u8]) -> Result<u32, Refus
     let mut coder = Convolver::new(rate);
     let (filled, rest) = symbols.split_at_mut(coder.symbols_len(data.len())?);
     let count = coder.push(data, filled)?;
-    coder.close(rest)?;
+    coder.finish(rest)?;
     Ok(count)
 }
 
@@ -93,8 +93,8 @@ pub struct CoderState {
 ///         coder.push(data, &mut symbols)?;
 ///         joined.extend(symbols);
 ///     }
-///     let mut last = vec![0; coder.close_len()?];
-///     assert_eq!(coder.close(&mut last), Ok(coder.state().holds.into()));
+///     let mut last = vec![0; coder.finish_len()?];
+///     assert_eq!(coder.finish(&mut last), Ok(coder.state().holds.into()));
 ///     joined.extend(last);
 ///
 ///     let mut whole = vec![0; symbols_len(rate, stream.len())?];
@@ -132,10 +132,10 @@ impl Convolver {
         Ok(count)
     }
 
-    /// Ends the stream: writes the symbols held, if there are any, as one octet that is filled with zeros ([`close_len`](Self::close_len)
+    /// Ends the stream: writes the symbols held, if there are any, as one octet that is filled with zeros ([`finish_len`](Self::finish_len)
     /// octets), and gives their number. This coder is only read, and nothing in it says that its stream has ended; the next stream needs
     /// a new one. Refuses by 7, 6.
-    pub fn close(&self, symbols: &mut [u8]) -> Result<u32, Refusal> {
+    pub fn finish(&self, symbols: &mut [u8]) -> Result<u32, Refusal> {
         let mut count = 0;
         accepted(raw::convolve_close(self.rate, &self.state, symbols, &mut count))?;
         Ok(count)
@@ -160,8 +160,8 @@ impl Convolver {
         Ok((usize::from(holds) + symbols) / 8)
     }
 
-    /// The octets that a close writes now: 1 if any symbols are held, else 0. Refuses by 7.
-    pub fn close_len(&self) -> Result<usize, Refusal> {
+    /// The octets that [`finish`](Self::finish) writes now: 1 if any symbols are held, else 0. Refuses by 7.
+    pub fn finish_len(&self) -> Result<usize, Refusal> {
         self.judge()?;
         Ok(usize::from(self.state().holds).div_ceil(8))
     }
@@ -169,7 +169,7 @@ impl Convolver {
     /// The proved code's own judgement of rate and state. It judges them before lengths, and no close writes two octets: so it refuses
     /// two for their length exactly if rate and state are good.
     fn judge(&self) -> Result<(), Refusal> {
-        match self.close(&mut [0; 2]) {
+        match self.finish(&mut [0; 2]) {
             Err(Refusal::OutputLength) => Ok(()),
             refused => refused.map(|_| ()),
         }

@@ -224,7 +224,7 @@ pub fn convolve_close(coder: &mut Convolver, before: &[u8]) -> (Result<u32, Refu
     let state = carried(coder);
     let closed = second::convolution::close(coder.rate(), state, before.len());
     let expected = closed.map(|(count, octets)| (count, octets, state));
-    coded(coder, before, expected, |coder, symbols| coder.close(symbols))
+    coded(coder, before, expected, |coder, symbols| coder.finish(symbols))
 }
 
 /// The answer, and the symbols as they are afterwards, of data that are coded by themselves: in the second program a call from the start

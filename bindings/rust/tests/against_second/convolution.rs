@@ -59,7 +59,7 @@ fn every_rate_and_length() {
             let mut coder = Convolver::from_state(rate, any_state(&draw, rate));
             let filled = coder.symbols_len(n).unwrap();
             tallies.call(&draw, &mut coder, n, filled).unwrap();
-            let last = coder.close_len().unwrap();
+            let last = coder.finish_len().unwrap();
             tallies.close(&draw, &mut coder, last).unwrap();
             let symbols = draw.octets(symbols_len(rate, n).unwrap());
             alone.count(&both::convolve_alone(rate, &draw.octets(n), &symbols).0);
@@ -101,7 +101,7 @@ fn every_close() {
         for holds in 0..8 {
             for held in 0..=255 {
                 let mut coder = Convolver::from_state(rate, CoderState { holds, held, ..any_state(&draw, rate) });
-                let last = coder.close_len().unwrap();
+                let last = coder.finish_len().unwrap();
                 assert_eq!(tallies.close(&draw, &mut coder, last), Ok(holds.into()));
             }
         }
@@ -128,7 +128,7 @@ fn cut(draw: &Draw, tallies: &mut Tallies, rate: u32, len: usize, size: impl Fn(
         assert_eq!(stored, coder);
         coder = stored;
     }
-    let before = draw.octets(coder.close_len().unwrap());
+    let before = draw.octets(coder.finish_len().unwrap());
     let (answer, last) = both::convolve_close(&mut coder, &before);
     tallies.closes.count(&answer);
     assert_eq!(answer, Ok((symbols - 8 * joined.len()) as u32));
@@ -176,7 +176,7 @@ fn another_rate() {
                 assert_eq!(tallies.close(&draw, &mut other, 1), Err(Refusal::Rate));
             }
         }
-        let last = coder.close_len().unwrap();
+        let last = coder.finish_len().unwrap();
         tallies.close(&draw, &mut coder, last).unwrap();
     }
     tallies.calls.demand("convolve, another rate", &[0, 7], 2000);
@@ -203,7 +203,7 @@ fn due_len(coder: &Convolver, n: usize) -> Result<usize, Refusal> {
 }
 
 /// The same of a close.
-fn due_close_len(coder: &Convolver) -> Result<usize, Refusal> {
+fn due_finish_len(coder: &Convolver) -> Result<usize, Refusal> {
     if !fits(coder) {
         return Err(Refusal::Rate);
     }
@@ -226,8 +226,8 @@ fn limits_from(draw: &Draw, tallies: &mut Tallies, coder: Convolver) {
             as_due(tallies.call(draw, &mut coder.clone(), n, output), due, output, &coder);
         }
     }
-    let due = due_close_len(&coder);
-    assert_eq!(coder.close_len(), due, "{coder:?}");
+    let due = due_finish_len(&coder);
+    assert_eq!(coder.finish_len(), due, "{coder:?}");
     for output in [0, 1, 2, 8] {
         as_due(tallies.close(draw, &mut coder.clone(), output), due, output, &coder);
     }
@@ -272,7 +272,7 @@ fn several_faults_at_once() {
         };
         let mut coder = Convolver::from_state(rate, state);
         let n = draw.mostly(&[0, 1, draw.upto(300), LONGEST], &[LONGEST + 1, 2100]);
-        let (due, due_close) = (due_len(&coder, n), due_close_len(&coder));
+        let (due, due_close) = (due_len(&coder, n), due_finish_len(&coder));
         let required = due_close.unwrap_or(1);
         let output = draw.mostly(&[required], &[0, 1, 2, 3]);
         as_due(tallies.close(&draw, &mut coder, output), due_close, output, &coder);
