@@ -12,7 +12,7 @@ use lib.Bits.{bitXor, xor-mod, xor-shr, xor-lt, xor-zero-r}
 use Rattle.field.proofs.Below.{both, both-left, both-right, allBelow, at-below}
 use Rattle.convolution.specs.declared.Group.{Group}
 use Rattle.convolution.specs.Coder.{lowBits, sent, c1Patterns, c2Patterns, patternAt, nextPlace, placeAfter}
-use Rattle.convolution.specs.Working.{pickedFrom}
+use Rattle.convolution.specs.Working.{patternsFrom, pickedFrom}
 use Rattle.convolution.specs.GroupWorking.{movedUp, spreadBy, symbolsBy, Grouped}
 use Rattle.convolution.proofs.Bits.{low-first, low-mod}
 use Rattle.convolution.proofs.AtOnce.{place-by-count}
@@ -67,6 +67,23 @@ down : (n x : ℕ) → lowBits n x ≡ bitsDown n x
 down zero x = refl
 down (suc n) x = low-first n x ∙ ap (λ (l : List ℕ). x / 2 ^ n % 2 ∷ l) (down n x)
 
+-- And what is sent, by a list of what each pattern says.
+abbrev pickedBy : List ℕ → List ℕ → List ℕ → List ℕ → List ℕ
+pickedBy [] q xs ys = []
+pickedBy (a ∷ p) [] xs ys = []
+pickedBy (a ∷ p) (b ∷ q) [] ys = []
+pickedBy (a ∷ p) (b ∷ q) (x ∷ xs) [] = []
+pickedBy (a ∷ p) (b ∷ q) (x ∷ xs) (y ∷ ys) = sent a x ++ sent b y ++ pickedBy p q xs ys
+
+abbrev secondsFrom : ℕ → ℕ → ℕ → List ℕ
+secondsFrom rate place zero = []
+secondsFrom rate place (suc n) = patternAt c2Patterns rate place ∷ secondsFrom rate (nextPlace rate place) n
+
+by-lists : (n rate place x y : ℕ) → pickedFrom rate place (bitsDown n x) (bitsDown n y) ≡ pickedBy (patternsFrom rate place n) (secondsFrom rate place n) (bitsDown n x) (bitsDown n y)
+by-lists zero rate place x y = refl
+by-lists (suc n) rate place x y =
+    ap (λ (l : List ℕ). sent (patternAt c1Patterns rate place) (x / 2 ^ n % 2) ++ sent (patternAt c2Patterns rate place) (y / 2 ^ n % 2) ++ l) (by-lists n rate (nextPlace rate place) x y)
+
 module _ (rate : ℕ) (g : Group) where
   record Right (x y : ℕ) : Type 0 where
     symbols : lowBits (8 * g .filled) (symbolsBy g x y) ≡ pickedFrom rate 0 (lowBits (8 * g .octets) x) (lowBits (8 * g .octets) y)
@@ -88,27 +105,36 @@ module _ (rate : ℕ) (g : Group) where
   abbrev has : List ℕ → ℕ → Bool
   has l v = both (same (bitsDown (8 * g .filled) v) l) (ltb v (2 ^ (8 * g .filled)))
 
+  abbrev testBy : List ℕ → List ℕ → ℕ → ℕ → Bool
+  testBy p q x y = has (pickedBy p q (bitsDown (8 * g .octets) x) (bitsDown (8 * g .octets) y)) (symbolsBy g x y)
+
   abbrev test : ℕ → ℕ → Bool
-  test x y = has (pickedFrom rate 0 (bitsDown (8 * g .octets) x) (bitsDown (8 * g .octets) y)) (symbolsBy g x y)
+  test = testBy (patternsFrom rate 0 (8 * g .octets)) (secondsFrom rate 0 (8 * g .octets))
 
   tested : (x y : ℕ) → T (test x y) → Right x y
   tested x y t =
       let n = 8 * g .octets in
       let v = symbolsBy g x y in
-      let l = pickedFrom rate 0 (bitsDown n x) (bitsDown n y) in
+      let l = pickedBy (patternsFrom rate 0 n) (secondsFrom rate 0 n) (bitsDown n x) (bitsDown n y) in
       let a = same (bitsDown (8 * g .filled) v) l in
       let b = ltb v (2 ^ (8 * g .filled)) in
       record {
-        symbols = down (8 * g .filled) v ∙ same-lists (bitsDown (8 * g .filled) v) l (both-left a b t) ∙ sym (ap₂ (pickedFrom rate 0) (down n x) (down n y));
+        symbols = down (8 * g .filled) v ∙ same-lists (bitsDown (8 * g .filled) v) l (both-left a b t) ∙ sym (ap₂ (pickedFrom rate 0) (down n x) (down n y) ∙ by-lists n rate 0 x y);
         small = leb→le (suc v) (2 ^ (8 * g .filled)) (both-right a b t);
       }
 
   -- One bit of C1 or of C2.
+  abbrev unitBy : List ℕ → List ℕ → ℕ → Bool
+  unitBy p q k = both (testBy p q (2 ^ k) 0) (testBy p q 0 (2 ^ k))
+
   abbrev unit : ℕ → Bool
-  unit k = both (test (2 ^ k) 0) (test 0 (2 ^ k))
+  unit = unitBy (patternsFrom rate 0 (8 * g .octets)) (secondsFrom rate 0 (8 * g .octets))
+
+  abbrev unitsBy : List ℕ → List ℕ → Bool
+  unitsBy p q = both (testBy p q 0 0) (allBelow (8 * g .octets) (unitBy p q))
 
   abbrev units : Bool
-  units = both (test 0 0) (allBelow (8 * g .octets) unit)
+  units = unitsBy (patternsFrom rate 0 (8 * g .octets)) (secondsFrom rate 0 (8 * g .octets))
 
   module _ (t : T units) where
     none : Right 0 0

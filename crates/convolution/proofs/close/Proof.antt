@@ -17,10 +17,7 @@ enum-known-checked : tie.Need-enum-known-checked
 enum-known-checked c = search needs
 
 returns : tie.Need-returns
-returns c =
-    let start = c .before .before .before .before .before in
-    let checked = c .before .before .before .coder-close-parameters in
-    close-refused (start .args .rate) (start .args .state) (start .args .symbols .now) (checked .result) (checked .ensures) _ (c .before .checked .given .1)
+returns c = close-refused _ _ _ _ (c .before .before .before .coder-close-parameters .ensures) _ (c .before .checked .given .1)
 
 enum-told : tie.Need-enum-told
 enum-told c = search needs
@@ -43,6 +40,14 @@ returns-2 c =
     close-done (start .args .rate) (start .args .state) (start .args .symbols .now) (checked .result) (checked .ensures) 0 (start .args .symbols .now) (c .before .before .enum-told .given .1) (sym none)
     (closed-none (start .args .state) (start .args .symbols .now) none (legal (c .before .before) .room))
 
+returns-3 : tie.Need-returns-3
+returns-3 c =
+    let start = c .before .before .before .before .before .before .before .before in
+    let checked = c .before .before .before .before .before .before .coder-close-parameters in
+    let known = legal (c .before .before .before .before) in
+    close-done (start .args .rate) (start .args .state) (start .args .symbols .now) (checked .result) (checked .ensures) (start .args .state .holds) _ (c .before .before .before .before .enum-told .given .1) refl
+    (closed-some (start .args .state) (start .args .symbols .now) (c .last-octet .result) (omega (arith, c .before .before .if1 .left)) (known .coder .holds) (known .room) (c .last-octet .ensures ∙ ap firstOctet (c .before .top-bits .ensures .0)))
+
 top-bits-requires : tie.Need-top-bits-requires
 top-bits-requires c κs = legal (c .before .before) .coder .holds
 
@@ -57,14 +62,6 @@ cast-t10 c = search needs
 
 same-length : tie.Need-same-length
 same-length c = search needs
-
-returns-3 : tie.Need-returns-3
-returns-3 c =
-    let start = c .before .before .before .before .before .before .before .before in
-    let checked = c .before .before .before .before .before .before .coder-close-parameters in
-    let known = legal (c .before .before .before .before) in
-    close-done (start .args .rate) (start .args .state) (start .args .symbols .now) (checked .result) (checked .ensures) (start .args .state .holds) _ (c .before .before .before .before .enum-told .given .1) refl
-    (closed-some (start .args .state) (start .args .symbols .now) (c .last-octet .result) (omega (arith, c .before .before .if1 .left)) (known .coder .holds) (known .room) (c .last-octet .ensures ∙ ap firstOctet (c .before .top-bits .ensures .0)))
 
 pub close-spec : {M : Type 1} → statement M
 close-spec =

@@ -13,10 +13,7 @@ enum-known-checked : tie.Need-enum-known-checked
 enum-known-checked c = search needs
 
 returns : tie.Need-returns
-returns c =
-    let start = c .before .before .before .before .before .before in
-    let checked = c .before .before .before .convolve-parameters in
-    refused-outcome (start .args .rate) (start .args .state) (start .args .octets .now) (start .args .symbols .now) (checked .result) (checked .ensures) _ (c .before .checked .given .1)
+returns c = refused-outcome _ _ _ _ _ (c .before .before .before .convolve-parameters .ensures) _ (c .before .checked .given .1)
 
 enum-told : tie.Need-enum-told
 enum-told c = search needs
