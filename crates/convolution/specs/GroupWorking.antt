@@ -1,4 +1,5 @@
--- How groups of octets go at a punctured rate: what the private functions compute. The public promise speaks of none of it.
+-- How octets go in by turns, by groups at a punctured rate and by pairs at rate 1/2: what the private functions compute. The public promise speaks of
+-- none of it.
 use mathlib.Core.Path.{_≡_}
 use mathlib.Core.Logic.{_⊎_}
 use mathlib.Core.List.{List, _++_}

@@ -1,4 +1,4 @@
-// The coder between its checks and its answer: the state taken up, the octets in one by one, the state handed back.
+// The coder between its checks and its answer: the state taken up, the octets in by groups, by pairs or one by one, the state handed back.
 ghost use mathlib.Core.Path.{_≡_};
 ghost use Prim.Native.Nat.{_+_, _-_, _*_, _/_, _≤_, _<_};
 ghost use lib.ListN.{length};
