@@ -1,26 +1,6 @@
 //! The calls that are timed, as every side answers them: numbers, buffers and refusals as in include/ironsimmer.h.
 
-/// Strength E, depth I and fill Q.
-#[derive(Clone, Copy, Debug)]
-pub struct Code {
-    pub e: u32,
-    pub depth: u32,
-    pub fill: u32,
-}
-
-impl Code {
-    pub fn frame_len(self) -> usize {
-        ((255 - 2 * self.e - self.fill) * self.depth) as usize
-    }
-
-    pub fn checks_len(self) -> usize {
-        (2 * self.e * self.depth) as usize
-    }
-
-    pub fn block_len(self) -> usize {
-        ((255 - self.fill) * self.depth) as usize
-    }
-}
+pub use log_table::Code;
 
 /// The state of a frame in portions: place and closed, and the rows of checks.
 #[derive(Clone, Copy, Debug, PartialEq)]

@@ -7,6 +7,7 @@ mod cases;
 mod clock;
 mod data;
 mod ours;
+mod request;
 mod timing;
 
 use baseline::{Baseline, Form};
@@ -114,6 +115,7 @@ fn main() {
 
     let cases = cases::all(&ours::Ours);
     compare(&sides, &cases);
+    request::run(&ours::Ours, &plain);
     let timed = |case| {
         let sides = &sides[..=Case::forms(case)];
         sides.iter().map(|side| Timing::new(case, *side)).collect()

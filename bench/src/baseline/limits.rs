@@ -1,34 +1,10 @@
-//! The checks of parameters and lengths: the refusal's number, 0 if there is none.
+//! The checks of parameters and lengths but for encode and decode, which are the library's: the refusal's number, 0 if there is none.
 
 use crate::calls::{filled_len, Code, Coder, State, PERIODS};
+use log_table::Refusal;
 
 fn code(code: Code) -> u64 {
-    if code.e != 8 && code.e != 16 {
-        1
-    } else if !matches!(code.depth, 1..=5 | 8) {
-        2
-    } else if code.fill > 254 - 2 * code.e {
-        3
-    } else {
-        0
-    }
-}
-
-fn lengths(input: usize, required_input: usize, output: usize, required_output: usize) -> u64 {
-    if input != required_input {
-        5
-    } else if output != required_output {
-        6
-    } else {
-        0
-    }
-}
-
-pub fn encode(parameters: Code, frame: usize, block: usize) -> u64 {
-    match code(parameters) {
-        0 => lengths(frame, parameters.frame_len(), block, parameters.block_len()),
-        number => number,
-    }
+    code.accept().map_or_else(Refusal::number, |()| 0)
 }
 
 pub fn portion(parameters: Code, state: State, portion: usize, written: usize) -> u64 {
@@ -46,14 +22,6 @@ pub fn close(parameters: Code, state: State, checks: usize) -> u64 {
     match code(parameters) {
         0 if checks != parameters.checks_len() => 6,
         0 if closed != 0 || place as usize != parameters.frame_len() => 14,
-        number => number,
-    }
-}
-
-pub fn decode(parameters: Code, s: u32, block: usize, frame: usize) -> u64 {
-    match code(parameters) {
-        0 if s > parameters.e => 4,
-        0 => lengths(block, parameters.block_len(), frame, parameters.frame_len()),
         number => number,
     }
 }

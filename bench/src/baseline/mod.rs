@@ -1,22 +1,17 @@
-//! Plain Rust that does the same: safe code, tables built once, no intrinsics.
+//! Plain Rust that does the same: safe code, tables built once, no intrinsics. The Reed-Solomon code is that of docs/src/log_table.
 
 mod convolution;
-mod decoder;
-mod encoder;
-mod errors;
 mod groups;
 mod limits;
 mod marker;
 mod portions;
 mod randomiser;
-mod tables;
 
 use crate::calls::{Calls, Code, Coder, State};
 use convolution::ByWindows;
-use encoder::Encoder;
 use groups::ByTables;
+use log_table::{Counts, Refusal};
 use randomiser::Sequence;
-use tables::Tables;
 
 /// Which form of decoder and convolutional coder answers; the other calls have one form, and the decoder has two.
 pub enum Form {
@@ -27,8 +22,6 @@ pub enum Form {
 
 pub struct Baseline {
     form: Form,
-    tables: Tables,
-    encoder: Encoder,
     by_windows: ByWindows,
     by_tables: ByTables,
     sequence: Sequence,
@@ -36,11 +29,8 @@ pub struct Baseline {
 
 impl Baseline {
     pub fn new(form: Form) -> Baseline {
-        let tables = Tables::new();
         Baseline {
             form,
-            encoder: Encoder::new(&tables),
-            tables,
             by_windows: ByWindows::new(),
             by_tables: ByTables::new(),
             sequence: Sequence::new(),
@@ -48,13 +38,27 @@ impl Baseline {
     }
 }
 
+/// The one number of include/ironsimmer.h: the refusal's, and above its eight bits the word that 10 names.
+fn answer(refusal: Refusal) -> u64 {
+    match refusal {
+        Refusal::Word(word) => refusal.number() | (word as u64) << 8,
+        _ => refusal.number(),
+    }
+}
+
+fn report(words: Counts, counts: &mut [u32; 9]) -> u64 {
+    counts[..8].copy_from_slice(&words);
+    counts[8] = words.iter().sum();
+    0
+}
+
 impl Calls for Baseline {
     fn encode(&self, code: Code, frame: &[u8], block: &mut [u8]) -> u64 {
-        self.encoder.encode(code, frame, block)
+        log_table::encode(code, frame, block).map_or_else(answer, |()| 0)
     }
 
     fn portion(&self, code: Code, state: &mut State, portion: &[u8], written: &mut [u8]) -> u64 {
-        let (number, next) = portions::portion(&self.encoder, code, *state, portion, written);
+        let (number, next) = portions::portion(code, *state, portion, written);
         *state = next;
         number
     }
@@ -73,19 +77,13 @@ impl Calls for Baseline {
         frame: &mut [u8],
         counts: &mut [u32; 9],
     ) -> u64 {
-        let (tables, encoder) = (&self.tables, &self.encoder);
-        match self.form {
-            Form::Plain => {
-                let syndromes_of =
-                    |code, block: &[u8]| decoder::of_all_symbols(tables, code, block);
-                decoder::decode(tables, syndromes_of, code, s, block, frame, counts)
-            }
+        let decoded = match self.form {
+            Form::Plain => log_table::decode(code, s, block, frame),
             Form::Faster | Form::Fastest => {
-                let syndromes_of =
-                    |code, block: &[u8]| decoder::of_checks(tables, encoder, code, block);
-                decoder::decode(tables, syndromes_of, code, s, block, frame, counts)
+                log_table::decode_by_coding_again(code, s, block, frame)
             }
-        }
+        };
+        decoded.map_or_else(answer, |words| report(words, counts))
     }
 
     fn search(

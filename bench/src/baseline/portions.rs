@@ -1,18 +1,12 @@
 //! Frames in portions: the state goes in and comes back by value, and each symbol enters the row of its word by the encoder's own step.
 
-use super::encoder::Encoder;
 use super::limits;
 use crate::calls::{Code, State};
+use log_table::entered;
 
 /// Not inlined, as no caller of an archive has it inlined: the state is copied in and out.
 #[inline(never)]
-pub fn portion(
-    encoder: &Encoder,
-    code: Code,
-    state: State,
-    portion: &[u8],
-    written: &mut [u8],
-) -> (u64, State) {
+pub fn portion(code: Code, state: State, portion: &[u8], written: &mut [u8]) -> (u64, State) {
     let number = limits::portion(code, state, portion.len(), written.len());
     if number != 0 {
         return (number, state);
@@ -22,7 +16,7 @@ pub fn portion(
     let mut next = state;
     let mut word = state.progress[0] as usize % depth;
     for symbol in portion {
-        next.rows[word] = encoder.entered(code.e, next.rows[word], *symbol);
+        next.rows[word] = entered(code.e, next.rows[word], *symbol);
         word += 1;
         if word == depth {
             word = 0;

@@ -19,3 +19,4 @@ pub mod RootCount
 pub mod LineWords
 pub mod ZeroWords
 pub mod Codewords
+pub mod AddedCodewords

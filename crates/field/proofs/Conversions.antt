@@ -14,7 +14,7 @@ use Rattle.field.proofs.Product.{whereSet-bit, whereSet-lt}
 
 -- ---- linear, whatever the rows are
 
-times-linear : (rows : List ℕ) (a b : ℕ) → timesMatrix rows (a ⊕ b) ≡ timesMatrix rows a ⊕ timesMatrix rows b
+pub times-linear : (rows : List ℕ) (a b : ℕ) → timesMatrix rows (a ⊕ b) ≡ timesMatrix rows a ⊕ timesMatrix rows b
 unfolding timesMatrix
 times-linear [] a b = sym (⊕-zero 0)
 times-linear (row ∷ rows) a b =

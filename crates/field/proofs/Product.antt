@@ -47,7 +47,7 @@ unfolding whereSet timesAlpha _⊕_
 timesAlpha-pick zero a = refl
 timesAlpha-pick (suc d) a = refl
 
-timesAlpha-lt : (a : ℕ) → timesAlpha a < 256
+pub timesAlpha-lt : (a : ℕ) → timesAlpha a < 256
 unfolding timesAlpha
 timesAlpha-lt a = ⊕-octet (a % 128 * 2) (whereSet (a / 128 % 2) 0x87) (omega arith) (whereSet-lt (a / 128 % 2) 0x87 (omega arith))
 

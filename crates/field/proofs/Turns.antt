@@ -1,6 +1,6 @@
 -- What the loops of the code ask of the field: one turn of the product, of the inverse and of a matrix.
 use mathlib.Core.Path.{_≡_, refl, sym, ap, ap₂, _∙_}
-use Prim.Native.Nat.{ℕ, suc, _+_, _-_, _*_, _/_, _%_, _^_, _≤_, _<_}
+use Prim.Native.Nat.{ℕ, zero, suc, _+_, _-_, _*_, _/_, _%_, _^_, _≤_, _<_}
 use native.Mathlib.Nat.{mod-eq-of-lt}
 use native.Mathlib.Omega.{arith}
 use mathlib.Core.List.{List}
@@ -13,48 +13,44 @@ use Rattle.field.specs.Field.{_⊕_, _·_, shiftAndAdd, timesAlpha, wher
 use Rattle.field.specs.Line.{timesMatrix}
 use Rattle.field.proofs.Powers.{chain}
 
-alpha-at : (a d : ℕ) → a / 128 % 2 ≡ d → bitAnd a 127 * 2 % 256 ⊕ whereSet d 0x87 ≡ timesAlpha a
+-- a bit as a factor
+bit-times : (bit v : ℕ) → bit < 2 → bit * v ≡ whereSet bit v
+unfolding whereSet
+bit-times zero v h = omega arith
+bit-times (suc zero) v h = omega arith
+bit-times (suc (suc bit)) v h = absurd (omega arith)
+
+pub bit-times-small : (bit v : ℕ) → bit < 2 → v < 256 → bit * v < 256
+bit-times-small zero v h l = omega arith
+bit-times-small (suc zero) v h l = omega arith
+bit-times-small (suc (suc bit)) v h l = absurd (omega arith)
+
+pub alpha-is : (a top : ℕ) → a < 256 → top ≡ a / 128 → bitXor (bitAnd a 127 * 2 % 256) (top * 0x87) ≡ timesAlpha a
 unfolding timesAlpha
-alpha-at a d e = ap₂ (λ (x y : ℕ). x * 2 % 256 ⊕ whereSet y 0x87) (and-mask a 7) (sym e) ∙ ap (λ (x : ℕ). x ⊕ whereSet (a / 128 % 2) 0x87) (mod-eq-of-lt (omega arith))
-
-pub alpha-low : (a : ℕ) → a < 128 → bitAnd a 127 * 2 % 256 ≡ timesAlpha a
-unfolding whereSet
-alpha-low a h = sym (⊕-zero (bitAnd a 127 * 2 % 256)) ∙ alpha-at a 0 (omega arith)
-
-pub alpha-high : (a : ℕ) → 128 ≤ a → a < 256 → bitXor (bitAnd a 127 * 2 % 256) 0x87 ≡ timesAlpha a
-unfolding whereSet
-alpha-high a h l = sym (⊕-is (bitAnd a 127 * 2 % 256) 0x87) ∙ alpha-at a 1 (omega arith)
+alpha-is a top h e =
+    sym (⊕-is (bitAnd a 127 * 2 % 256) (top * 0x87))
+    ∙ ap₂ (λ (x y : ℕ). x ⊕ y) (ap (λ (x : ℕ). x * 2 % 256) (and-mask a 7) ∙ mod-eq-of-lt (omega arith))
+    (bit-times top 0x87 (omega arith) ∙ ap (λ (x : ℕ). whereSet x 0x87) (omega arith))
 
 pub mul-starts : (a b : ℕ) → a < 256 → 0 ⊕ shiftAndAdd 8 a b ≡ a · b
 unfolding _·_
 mul-starts a b h = zero-⊕ (shiftAndAdd 8 a b) ∙ ap (λ (x : ℕ). shiftAndAdd 8 x b) (sym (mod-eq-of-lt h))
 
-module _ (acc x y n t : ℕ) (e : acc ⊕ shiftAndAdd (suc n) x y ≡ t) where
-  pub mul-set : y % 2 ≡ 1 → bitXor acc x ⊕ shiftAndAdd n (timesAlpha x) (y / 2) ≡ t
-  unfolding shiftAndAdd whereSet
-  mul-set q =
-      ap (λ (z : ℕ). z ⊕ shiftAndAdd n (timesAlpha x) (y / 2)) (sym (⊕-is acc x)) ∙ ⊕-assoc acc x (shiftAndAdd n (timesAlpha x) (y / 2))
-      ∙ ap (λ (d : ℕ). acc ⊕ (whereSet d x ⊕ shiftAndAdd n (timesAlpha x) (y / 2))) (sym q) ∙ e
-
-  pub mul-clear : y % 2 ≡ 0 → acc ⊕ shiftAndAdd n (timesAlpha x) (y / 2) ≡ t
-  unfolding shiftAndAdd whereSet
-  mul-clear q =
-      ap (λ (z : ℕ). acc ⊕ z) (sym (zero-⊕ (shiftAndAdd n (timesAlpha x) (y / 2))))
-      ∙ ap (λ (d : ℕ). acc ⊕ (whereSet d x ⊕ shiftAndAdd n (timesAlpha x) (y / 2))) (sym q) ∙ e
-
 pub mul-ends : (acc x y n t : ℕ) → n ≡ 0 → acc ⊕ shiftAndAdd n x y ≡ t → acc ≡ t
 unfolding shiftAndAdd
 mul-ends acc x y n t z e = sym (⊕-zero acc) ∙ ap (λ (k : ℕ). acc ⊕ shiftAndAdd k x y) (sym z) ∙ e
 
-module _ (acc x y i t acc′ x′ : ℕ) (h : i < 8) (e : acc ⊕ shiftAndAdd (8 - i) x y ≡ t) (q : x′ ≡ timesAlpha x) where
-  one-less : acc ⊕ shiftAndAdd (suc (8 - (i + 1))) x y ≡ t
-  one-less = ap (λ (k : ℕ). acc ⊕ shiftAndAdd k x y) (omega arith) ∙ e
+pub mul-turn : (acc x y i t x′ : ℕ) → i < 8 → acc ⊕ shiftAndAdd (8 - i) x y ≡ t → x′ ≡ timesAlpha x → bitXor acc (y % 2 * x) ⊕ shiftAndAdd (8 - (i + 1)) x′ (y / 2) ≡ t
+unfolding shiftAndAdd
+mul-turn acc x y i t x′ h e q =
+    ap₂ (λ (u v : ℕ). u ⊕ shiftAndAdd n v (y / 2)) (sym (⊕-is acc (y % 2 * x)) ∙ ap (λ (z : ℕ). acc ⊕ z) (bit-times (y % 2) x (omega arith))) q
+    ∙ ⊕-assoc acc (whereSet (y % 2) x) (shiftAndAdd n (timesAlpha x) (y / 2)) ∙ ap (λ (k : ℕ). acc ⊕ shiftAndAdd k x y) (next i h) ∙ e
+  where
+    n : ℕ
+    n = 8 - (i + 1)
 
-  pub mul-turn-set : y % 2 ≡ 1 → acc′ ≡ bitXor acc x → acc′ ⊕ shiftAndAdd (8 - (i + 1)) x′ (y / 2) ≡ t
-  mul-turn-set p r = ap₂ (λ (u v : ℕ). u ⊕ shiftAndAdd (8 - (i + 1)) v (y / 2)) r q ∙ mul-set acc x y (8 - (i + 1)) t one-less p
-
-  pub mul-turn-clear : (y % 2 ≡ 1 → ⊥) → acc′ ≡ acc → acc′ ⊕ shiftAndAdd (8 - (i + 1)) x′ (y / 2) ≡ t
-  mul-turn-clear p r = ap₂ (λ (u v : ℕ). u ⊕ shiftAndAdd (8 - (i + 1)) v (y / 2)) r q ∙ mul-clear acc x y (8 - (i + 1)) t one-less (omega arith)
+    next : (i : ℕ) → i < 8 → suc (8 - (i + 1)) ≡ 8 - i
+    next i h = omega arith
 
 -- ---- the inverse
 

@@ -6,7 +6,7 @@ fn times_alpha(a: u8) -> u8
     ensures { λ r. ⌜ r ≡ timesAlpha a ⌝ }
 {
     let low = (a & 127) << 1;
-    if a < 128 { low } else { low ^ 0x87 }
+    low ^ (a >> 7) * 0x87
 }
 
 pub fn mul(a: u8, b: u8) -> u8
@@ -16,9 +16,7 @@ pub fn mul(a: u8, b: u8) -> u8
     let mut shifted = a;
     let mut left = b;
     for _ in 0usize..8 {
-        if left % 2 == 1 {
-            sum = sum ^ shifted;
-        }
+        sum = sum ^ left % 2 * shifted;
         shifted = times_alpha(shifted);
         left = left >> 1;
     }

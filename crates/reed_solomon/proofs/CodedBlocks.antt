@@ -61,19 +61,20 @@ checks-fit e i q frame block legal = omega (arith, legal .input, legal .output, 
 put-size : (frame before put : List ℕ) → put ≡ copiedOver frame before → length put ≡ length before
 put-size frame before put P = ap length P ∙ copied-length frame before
 
-pub checks-room : (e i q : ℕ) (frame before put : List ℕ) → EncodeLegal e i q (length frame) (length before) → put ≡ copiedOver frame before
-    → (0 < i) × (i ≤ 8) × (length frame ≤ length put) × (length put ≤ length frame + 32 * i)
-checks-room e i q frame before put legal P =
-    (omega (arith, legal .words .some), legal .words .deep, omega (arith, size, fits), omega (arith, size, fits, mul-le-mul-right i few))
+-- so the rows of eight words hold them
+pub checks-rows : (e i q frame block : ℕ) → EncodeLegal e i q frame block → (0 < i) × (i ≤ 8) × (frame ≤ block) × (block ≤ frame + 32 * i)
+checks-rows e i q frame block legal = (omega (arith, legal .words .some), legal .words .deep, omega (arith, fits), omega (arith, fits, mul-le-mul-right i few))
   where
-    size : length put ≡ length before
-    size = put-size frame before put P
-
-    fits : length frame + (e + e) * i ≡ length before
-    fits = checks-fit e i q (length frame) (length before) legal
+    fits : frame + (e + e) * i ≡ block
+    fits = checks-fit e i q frame block legal
 
     few : e + e ≤ 32
     few = omega (arith, legal .words .strong)
+
+pub checks-room : (e i q : ℕ) (frame before put : List ℕ) → EncodeLegal e i q (length frame) (length before) → put ≡ copiedOver frame before
+    → (0 < i) × (i ≤ 8) × (length frame ≤ length put) × (length put ≤ length frame + 32 * i)
+checks-room e i q frame before put legal P =
+    subst (λ (n : ℕ). (0 < i) × (i ≤ 8) × (length frame ≤ n) × (n ≤ length frame + 32 * i)) (sym (put-size frame before put P)) (checks-rows e i q (length frame) (length before) legal)
 
 -- ---- the block
 

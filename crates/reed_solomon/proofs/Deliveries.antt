@@ -6,12 +6,12 @@ use Prim.Native.Nat.{ℕ, _+_, _-_, _*_, _≤_, _<_}
 use native.Mathlib.Nat.{mul-le-mul}
 use native.Mathlib.Omega.{arith}
 use native.Mathlib.Decide.{decLt}
-use lib.ListN.{length, take, drop, getD, replicate, List·getD-append}
-use lib.Seq.{getD-take, length-take-le}
+use lib.ListN.{length, take, drop, getD, replicate, length-replicate, List·getD-append}
+use lib.Seq.{take-at, getD-take, length-take-le}
 use Rattle.octets.specs.Copies.{copiedOver}
 use Rattle.octets.proofs.Laws.{copied-fitting, copied-length}
-use Rattle.refusals.specs.Order.{FirstOf}
-use Rattle.refusals.specs.Sizes.{information, frameLength, blockLength}
+use Rattle.refusals.specs.Order.{OneOf, FirstOf}
+use Rattle.refusals.specs.Sizes.{strengths, information, frameLength, blockLength}
 use Rattle.refusals.specs.Numbers.{verdictNumber}
 use Rattle.refusals.specs.Calls.{decodeParameters}
 use Rattle.refusals.specs.declared.Parameter.{Parameter}
@@ -22,13 +22,20 @@ use Rattle.refusals.specs.declared.WordRefusal.the-variants.{Parameters, NoCode
 use Rattle.refusals.proofs.Orders.{Numbered, Clear, accepted-clear, not-different, first-passes}
 use Rattle.refusals.proofs.Verdicts.{parameter-nonzero, parameter-not-ten, stopped}
 use Rattle.refusals.proofs.Legal.{LegalWords, legal-words}
+use Rattle.words.proofs.Arrays.{zero-at}
 use Rattle.codewords.specs.Words.{Good, differing}
+use Rattle.codewords.proofs.LineWords.{differing-self}
 use Rattle.reed_solomon.specs.declared.Decoded.{Decoded}
 use Rattle.reed_solomon.specs.declared.Decoded.the-variants.{Delivered, Refused}
-use Rattle.reed_solomon.specs.Blocks.{wordOf, sum}
+use Rattle.reed_solomon.specs.Blocks.{sentFrom, wordOf, sum}
+use Rattle.reed_solomon.specs.Rows.{noRows}
+use Rattle.reed_solomon.specs.EncoderWorking.{RowsOn}
 use Rattle.reed_solomon.specs.Outcome.{Delivery, LowestLost, DecodeOutcome}
-use Rattle.reed_solomon.specs.DecoderWorking.{Fitting, HasCodeword, Repaired}
-use Rattle.reed_solomon.proofs.Interleaving.{place-below}
+use Rattle.reed_solomon.specs.DecoderWorking.{Standing, WordRows, Fitting, HasCodeword, Repaired}
+use Rattle.reed_solomon.proofs.Interleaving.{place-below, word-at}
+use Rattle.reed_solomon.proofs.CodedBlocks.{checks-rows}
+use Rattle.reed_solomon.proofs.StandingChecks.{word-rows, standing-coded}
+use Rattle.reed_solomon.proofs.WordRepairs.{sum-zeros}
 
 -- ---- what passed parameters say
 
@@ -69,6 +76,28 @@ fitting e i q s block repaired frame size f =
       received = L .received;
       room = omega (arith, frame-most e i q (L .words));
     }
+
+-- the rows of a block's own front fit behind it
+pub coded-room : (e i q s block frame : ℕ) → FirstOf (decodeParameters e i q s block frame) 0 → (0 < i) × (i ≤ 8) × (frame ≤ block) × (block ≤ frame + 32 * i) × (block ≤ 2040)
+coded-room e i q s block frame f =
+    let L : LegalBlock e i q s block frame = legal-block e i q s block frame f in
+    let R : (0 < i) × (i ≤ 8) × (frame ≤ block) × (block ≤ frame + 32 * i) = checks-rows e i q frame block (record { words = L .words; input = L .room; output = L .received }) in
+    (R .0, R .1, R .2, R .3, omega (arith, L .received, mul-le-mul (most q) (L .words .deep)))
+  where
+    most : (q : ℕ) → 255 - q ≤ 255
+    most q = omega arith
+
+-- what they are asked to be: their words' checks
+pub enter-legal : (e i q s block frame : ℕ) → FirstOf (decodeParameters e i q s block frame) 0 → OneOf strengths e × (0 < i) × (i ≤ 8)
+enter-legal e i q s block frame f =
+    let L : LegalBlock e i q s block frame = legal-block e i q s block frame f in
+    (L .words .strength, L .words .some, L .words .deep)
+
+pub checks-of-words : (e i q s : ℕ) (block frame : List ℕ) (rows : List (List ℕ)) → FirstOf (decodeParameters e i q s (length block) (length frame)) 0 → ((m : ℕ) → getD block m 0 < 256)
+    → RowsOn e i 0 noRows (take (length frame) block) rows → WordRows e i q block rows
+checks-of-words e i q s block frame rows f octets R =
+    let L : LegalBlock e i q s (length block) (length frame) = legal-block e i q s (length block) (length frame) f in
+    word-rows e i q block (length frame) rows (L .words) (L .room) (L .received) (coded-room e i q s (length block) (length frame) f .2) R octets
 
 -- ---- the answers
 
@@ -154,39 +183,82 @@ module _ (e i q s : ℕ) (block frame : List ℕ) where
     abbrev pub all-good : i ≤ words → len ≡ 2040 → AllGood e i q s block counts
     all-good h room = record { repaired = repaired; delivery = words-delivered h; room = R .size ∙ room; size = R .sofar .size }
 
-  module _ (f : FirstOf (decodeParameters e i q s (length block) (length frame)) 0) (counts : List ℕ) (total : ℕ) (after : List ℕ) (A : AllGood e i q s block counts)
-      (summed : total ≡ sum counts) (is : after ≡ copiedOver (take (length frame) (A .repaired)) frame) where
+  -- a list that holds every word's information symbols is copied out
+  module _ (f : FirstOf (decodeParameters e i q s (length block) (length frame)) 0) (repaired counts : List ℕ) (total : ℕ) (A : Delivery e i q s block repaired counts total)
+      (enough : length frame ≤ length repaired) (eight : length counts ≡ 8) (after : List ℕ) (is : after ≡ copiedOver (take (length frame) repaired) frame) where
     L : LegalBlock e i q s (length block) (length frame)
     L = legal-block e i q s (length block) (length frame) f
 
     abbrev front : List ℕ
-    front = take (length frame) (A .repaired)
+    front = take (length frame) repaired
 
     front-size : length front ≡ length frame
-    front-size = length-take-le (length frame) (A .repaired) (omega (arith, A .room, L .room, frame-most e i q (L .words)))
+    front-size = length-take-le (length frame) repaired enough
 
-    at : (n : ℕ) → n < length frame → getD after n 0 ≡ getD (A .repaired) n 0
+    at : (n : ℕ) → n < length frame → getD after n 0 ≡ getD repaired n 0
     at n l =
         ap (λ (list : List ℕ). getD list n 0) (is ∙ copied-fitting front frame (omega (arith, front-size)))
-        ∙ List·getD-append front (drop (length front) frame) 0 n (omega (arith, front-size)) ∙ getD-take (length frame) (A .repaired) n 0 l
+        ∙ List·getD-append front (drop (length front) frame) 0 n (omega (arith, front-size)) ∙ getD-take (length frame) repaired n 0 l
 
-    -- the frame is the front of the repaired words
+    -- the frame is the front of that list
     D : Delivery e i q s block after counts total
     D = record {
-      codewords = A .delivery .codewords;
-      good = A .delivery .good;
-      symbols = λ k w m l. at (k * i + w) (omega (arith, L .room, place-below i k (information e - q) w m l)) ∙ A .delivery .symbols k w m l;
-      count = A .delivery .count;
-      beyond = A .delivery .beyond;
-      summed = summed;
+      codewords = A .codewords;
+      good = A .good;
+      symbols = λ k w m l. at (k * i + w) (omega (arith, L .room, place-below i k (information e - q) w m l)) ∙ A .symbols k w m l;
+      count = A .count;
+      beyond = A .beyond;
+      summed = A .summed;
     }
 
-    pub delivers : DecodeOutcome e i q s block frame Delivered counts total after
-    delivers = record {
+    copied-out : DecodeOutcome e i q s block frame Delivered counts total after
+    copied-out = record {
       number = first-passes (decodeParameters e i q s (length block) (length frame)) 0 (decode-numbers e i q s (length block) (length frame)) f
           (inr ((λ l. l .2 (D .codewords (l .0)) (D .good (l .0) (l .1))), refl));
       word = λ ten. absurd (omega arith);
-      size = (ap length is ∙ copied-length front frame, A .size);
+      size = (ap length is ∙ copied-length front frame, eight);
       refused = λ n. absurd (n refl);
       delivered = λ z. D;
     }
+
+  pub delivers : FirstOf (decodeParameters e i q s (length block) (length frame)) 0 → (counts : List ℕ) (total : ℕ) (after : List ℕ) (A : AllGood e i q s block counts)
+      → total ≡ sum counts → after ≡ copiedOver (take (length frame) (A .repaired)) frame → DecodeOutcome e i q s block frame Delivered counts total after
+  delivers f counts total after A summed is =
+      let L′ : LegalBlock e i q s (length block) (length frame) = legal-block e i q s (length block) (length frame) f in
+      copied-out f (A .repaired) counts total (subst (Delivery e i q s block (A .repaired) counts) (sym summed) (A .delivery))
+      (omega (arith, A .room, L′ .room, frame-most e i q (L′ .words))) (A .size) after is
+
+-- ---- a block that is coded as it stands is delivered as it stands
+
+module _ (e i q s : ℕ) (block frame : List ℕ) (f : FirstOf (decodeParameters e i q s (length block) (length frame)) 0) (octets : (m : ℕ) → getD block m 0 < 256)
+    (rows : List (List ℕ)) (R : RowsOn e i 0 noRows (take (length frame) block) rows) (S : Standing rows i (length frame) block) where
+  L′ : LegalBlock e i q s (length block) (length frame)
+  L′ = legal-block e i q s (length block) (length frame) f
+
+  good : (w : ℕ) → w < i → Good e q s (wordOf i q block w) (wordOf i q block w)
+  good w l =
+      record {
+        code = standing-coded e i q block (length frame) rows (L′ .words) (L′ .room) (L′ .received) (coded-room e i q s (length block) (length frame) f .2) R octets S w l;
+        fill = take-at (replicate q 0) (sentFrom i block w 0 (255 - q)) q (length-replicate {A = ℕ} q 0);
+        close = omega (arith, differing-self (wordOf i q block w));
+      }
+
+  -- every word is its own codeword
+  as-it-stands : Delivery e i q s block block (replicate 8 0) 0
+  as-it-stands =
+      record {
+        codewords = wordOf i q block;
+        good = good;
+        symbols = λ k w m l. sym (word-at i q block w k (omega arith));
+        count = λ w l. zero-at 8 w ∙ sym (differing-self (wordOf i q block w));
+        beyond = λ w l. zero-at 8 w;
+        summed = sum-zeros 8;
+      }
+
+  pub delivers-coded : (a : Decoded) (c : List ℕ) (t : ℕ) (after : List ℕ) → (a ≡ Delivered) × (t ≡ 0) × (c ≡ replicate 8 0) → after ≡ copiedOver (take (length frame) block) frame
+      → DecodeOutcome e i q s block frame a c t after
+  delivers-coded a c t after same is =
+      subst (λ (x : Decoded). DecodeOutcome e i q s block frame x c t after) (sym (same .0))
+      (subst (λ (x : ℕ). DecodeOutcome e i q s block frame Delivered c x after) (sym (same .1))
+      (subst (λ (x : List ℕ). DecodeOutcome e i q s block frame Delivered x 0 after) (sym (same .2))
+      (copied-out e i q s block frame f block (replicate 8 0) 0 as-it-stands (coded-room e i q s (length block) (length frame) f .2) refl after is)))

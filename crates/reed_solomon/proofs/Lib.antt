@@ -1,11 +1,11 @@
 -- The laws of the Reed-Solomon coder, and the conditions of acceptance.
-pub mod Filling
 pub mod Eight
 pub mod StepTables
 pub mod Interleaving
 pub mod CheckRows
 pub mod RowTurns
 pub mod CodedBlocks
+pub mod StandingChecks
 pub mod PortionSteps
 pub mod Settled
 pub mod Portions

@@ -9,7 +9,7 @@ use native.Mathlib.Omega.{arith}
 use lib.ListN.{length, take, getD, set, replicate, length-set, getD-replicate}
 use lib.Seq.{getD-set-same, getD-set-other, length-take-le, take-suc, take-length}
 use Rattle.reed_solomon.specs.Rows.{entered, inRow, rowsEntered, noRows}
-use Rattle.reed_solomon.specs.EncoderWorking.{Stepped, rowAfter, RowsBy}
+use Rattle.reed_solomon.specs.EncoderWorking.{EnteredBy, rowAfter, RowsBy}
 use Rattle.reed_solomon.proofs.Interleaving.{word-of, place-symbol}
 use Rattle.reed_solomon.proofs.CheckRows.{long-row}
 
@@ -80,7 +80,7 @@ module _ (table : List ℕ) (i first : ℕ) (before : List (List ℕ)) (symbols 
       }
 
   module _ (at word : ℕ) (rows after : List (List ℕ)) (row : List ℕ) (T : Turn table i first before symbols at word rows) (h : at < length symbols)
-      (sets : after ≡ set rows word row) (steps : Stepped table (getD rows word []) (getD symbols at 0) row) where
+      (sets : after ≡ set rows word row) (steps : EnteredBy table (getD rows word []) (getD symbols at 0) row) where
     more : RowsBy table i first before (take (at + 1) symbols) after
     more e strength listed place p =
         sets

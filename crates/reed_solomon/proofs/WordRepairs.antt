@@ -1,24 +1,30 @@
 -- A word of a block and its repair: the symbols sent, the codeword found for them, and the places that they take in a frame.
-use mathlib.Core.Path.{_≡_, refl, sym, ap, _∙_, subst}
+use mathlib.Core.Path.{_≡_, refl, sym, ap, ap₂, _∙_, subst}
 use mathlib.Core.Bool.{Bool, true, false, not}
 use borrow.Author.Tests.{not-true, not-false}
-use mathlib.Core.List.{List, [], _∷_}
+use mathlib.Core.List.{List, [], _∷_, _++_}
 use Prim.Native.Nat.{ℕ, zero, suc, _+_, _-_, _*_, _≤_, _<_}
+use native.Mathlib.Nat.{mul-le-mul-right}
 use native.Mathlib.Omega.{arith}
-use native.Mathlib.Decide.{ℕ-discrete}
+use native.Mathlib.Decide.{decLt, ℕ-discrete}
 use lib.Bits.{bitXor}
-use lib.ListN.{length, take, getD, set, replicate, length-set, length-replicate}
-use lib.Seq.{getD-take, getD-append-add, getD-set-same, getD-set-other}
+use lib.ListN.{length, take, getD, set, replicate, length-set, length-append, length-replicate, List·getD-append}
+use lib.Seq.{getD-take, getD-append-add, getD-set-same, getD-set-other, ext-getD, length-take-le}
 use Rattle.refusals.specs.Sizes.{information}
 use Rattle.refusals.proofs.Legal.{strength-bounds}
 use Rattle.field.specs.Field.{_⊕_}
-use Rattle.field.proofs.Sum.{⊕-is}
-use Rattle.codewords.specs.Words.{withFill, Good, differing}
+use Rattle.field.proofs.Sum.{⊕-is, zero-⊕, ⊕-norm}
+use Rattle.codewords.specs.Words.{Codeword, withFill, Good, differing}
+use Rattle.codewords.specs.Polynomials.{_⊞_}
+use Rattle.codewords.proofs.WordValues.{length-pair}
 use Rattle.words.specs.Outcome.{LegalWord, fillOf, repaired, WordOutcome}
+use Rattle.words.proofs.Arrays.{zero-at}
+use Rattle.words.proofs.Coefficients.{at-⊞}
+use Rattle.words.proofs.OutcomesAdded.{outcome-⊞}
 use Rattle.reed_solomon.specs.Blocks.{sentFrom, sum}
 use Rattle.reed_solomon.specs.Outcome.{Lost}
-use Rattle.reed_solomon.specs.DecoderWorking.{Put, Fitting, HasCodeword, WordRepaired, Sofar}
-use Rattle.reed_solomon.proofs.Interleaving.{sent-length}
+use Rattle.reed_solomon.specs.DecoderWorking.{CodedBy, Difference, Put, Fitting, HasCodeword, WordRepaired, Sofar}
+use Rattle.reed_solomon.proofs.Interleaving.{sent-length, sent-symbol}
 
 -- ---- symbols of a repaired word
 
@@ -63,20 +69,78 @@ module _ (e i q s : ℕ) (block : List ℕ) (w : ℕ) (frame : List ℕ) (F : Fi
     few y = omega (arith, O .whenFound y .counted, O .whenFound y .good .close)
 
     -- one was found, and put into its places
-    pub has : found ≡ true → (symbols after : List ℕ) → take (255 - q) symbols ≡ sent → Put i w (255 - q - 2 * e) symbols errors frame after
-        → HasCodeword e i q s block w after count
-    has y symbols after so P =
+    pub has : found ≡ true → (after : List ℕ) → Put i w (255 - q - 2 * e) block errors frame after → HasCodeword e i q s block w after count
+    has y after P =
         record {
           codeword = withFill q (repaired sent errors);
           good = subst (λ (f : ℕ). Good e f s (withFill f sent) (withFill f (repaired sent errors))) fill-is (O .whenFound y .good);
-          symbols = λ k h. P .here k (omega arith) ∙ ap (λ (x : ℕ). bitXor x (getD errors k 0)) (symbol k h)
+          symbols = λ k h. P .here k (omega arith) ∙ ap (λ (x : ℕ). bitXor x (getD errors k 0)) (sym (sent-symbol i block w (255 - q) k (omega arith)))
               ∙ sym (⊕-is (getD sent k 0) (getD errors k 0)) ∙ sym (repaired-at sent errors k (omega (arith, size)) (omega (arith, size, O .size)))
               ∙ sym (filled-at q (repaired sent errors) k);
           count-is = O .whenFound y .counted ∙ ap (λ (f : ℕ). differing (withFill f sent) (withFill f (repaired sent errors))) fill-is;
         }
-      where
-        symbol : (k : ℕ) → k < information e - q → getD symbols k 0 ≡ getD sent k 0
-        symbol k h = sym (getD-take (255 - q) symbols k 0 (omega arith)) ∙ ap (λ (l : List ℕ). getD l k 0) so
+
+-- ---- the word less the codeword that its information symbols and a row make
+
+module _ (e i q s : ℕ) (block : List ℕ) (w : ℕ) (frame : List ℕ) (F : Fitting e i q s block frame) (row rest : List ℕ) (C : CodedBy e i q block w row)
+    (D : Difference row i block w (255 - q - 2 * e) (255 - q) rest) where
+  abbrev symbols : ℕ
+  symbols = information e - q
+
+  abbrev front : List ℕ
+  front = sentFrom i block w 0 symbols
+
+  abbrev coded : List ℕ
+  coded = front ++ take (e + e) row
+
+  abbrev less : List ℕ
+  less = take (255 - q) rest
+
+  sizes : 255 - q ≡ symbols + (e + e)
+  sizes = omega (arith, F .filled, strength-bounds e (F .strength) .1)
+
+  first-is : 255 - q - 2 * e ≡ symbols
+  first-is = omega arith
+
+  front-size : length front ≡ symbols
+  front-size = sent-length i block w 0 symbols
+
+  coded-size : length coded ≡ 255 - q
+  coded-size = omega (arith, C .full, length-append (replicate q 0) coded, length-replicate {A = ℕ} q 0)
+
+  less-size : length less ≡ 255 - q
+  less-size = length-take-le (255 - q) rest (omega (arith, D .size))
+
+  less-at : (k : ℕ) → k < 255 - q → getD less k 0 ⊕ getD coded k 0 ≡ getD block (k * i + w) 0
+  less-at k h =
+      elim (decLt k symbols) [
+        | yes l ↦ ap₂ (λ (x y : ℕ). x ⊕ y) (getD-take (255 - q) rest k 0 h ∙ D .front k (omega (arith, first-is)))
+            (List·getD-append front (take (e + e) row) 0 k (omega (arith, front-size)) ∙ sent-symbol i block w symbols k l) ∙ zero-⊕ (getD block (k * i + w) 0)
+        | no n ↦ ap₂ (λ (x y : ℕ). x ⊕ y)
+            (getD-take (255 - q) rest k 0 h ∙ D .checks k (omega (arith, first-is)) h ∙ sym (⊕-is (getD row (k - (255 - q - 2 * e)) 0) (getD block (k * i + w) 0))
+            ∙ ap (λ (j : ℕ). getD row (k - j) 0 ⊕ getD block (k * i + w) 0) first-is)
+            (ap (λ (m : ℕ). getD coded m 0) (omega (arith, front-size)) ∙ getD-append-add front (take (e + e) row) (k - symbols) 0
+            ∙ getD-take (e + e) row (k - symbols) 0 (omega (arith, sizes)))
+            ∙ simp ⊕-norm
+      ]
+
+  whole : less ⊞ coded ≡ sentFrom i block w 0 (255 - q)
+  whole =
+      ext-getD 0 (less ⊞ coded) (sentFrom i block w 0 (255 - q)) (length-pair less coded (less-size ∙ sym coded-size) ∙ less-size ∙ sym (sent-length i block w 0 (255 - q)))
+      (λ k h. at-⊞ less coded k ∙ less-at k (inside k h) ∙ sym (sent-symbol i block w (255 - q) k (inside k h)))
+    where
+      inside : (k : ℕ) → k < length (less ⊞ coded) → k < 255 - q
+      inside k h = omega (arith, length-pair less coded (less-size ∙ sym coded-size), less-size)
+
+  -- its outcome is the word's
+  word-outcome : (found : Bool) (count : ℕ) (errors : List ℕ) → WordOutcome e s less found count errors → WordOutcome e s (sentFrom i block w 0 (255 - q)) found count errors
+  word-outcome found count errors O =
+      subst (λ (l : List ℕ). WordOutcome e s l found count errors) whole
+      (outcome-⊞ e s less coded (coded-size ∙ sym less-size)
+      (subst (λ (n : ℕ). Codeword e (withFill n coded)) fill-back C) found count errors O)
+    where
+      fill-back : q ≡ 255 - length less
+      fill-back = omega (arith, less-size, F .filled)
 
 -- ---- what `repair_word` answers
 
@@ -86,15 +150,20 @@ put-room e i q s block frame F = subst (λ (n : ℕ). n * i ≤ length frame) (s
     swapped : (e q : ℕ) → information e - q ≡ 255 - q - 2 * e
     swapped e q = omega arith
 
+pub front-room : (e i q s : ℕ) (block frame : List ℕ) → Fitting e i q s block frame → (255 - q - 2 * e) * i ≤ length block
+front-room e i q s block frame F = omega (arith, F .received, mul-le-mul-right i (fewer (255 - q) (2 * e)))
+  where
+    fewer : (n k : ℕ) → n - k ≤ n
+    fewer n k = omega arith
+
 pub still-fits : (e i q s : ℕ) (block frame after : List ℕ) → length after ≡ length frame → Fitting e i q s block frame → Fitting e i q s block after
 still-fits e i q s block frame after same F =
     record { strength = F .strength; allowance = F .allowance; some = F .some; deep = F .deep; filled = F .filled; received = F .received; room = omega (arith, F .room) }
 
-module _ (e i q s : ℕ) (block : List ℕ) (w : ℕ) (frame : List ℕ) (F : Fitting e i q s block frame) (symbols : List ℕ)
-    (so : take (255 - q) symbols ≡ sentFrom i block w 0 (255 - q)) (found : Bool) (count : ℕ) (errors : List ℕ)
-    (O : WordOutcome e s (take (255 - q) symbols) found count errors) where
+module _ (e i q s : ℕ) (block : List ℕ) (w : ℕ) (frame : List ℕ) (F : Fitting e i q s block frame) (row rest : List ℕ) (C : CodedBy e i q block w row)
+    (D : Difference row i block w (255 - q - 2 * e) (255 - q) rest) (found : Bool) (count : ℕ) (errors : List ℕ) (O : WordOutcome e s (take (255 - q) rest) found count errors) where
   O′ : WordOutcome e s (sentFrom i block w 0 (255 - q)) found count errors
-  O′ = subst (λ (l : List ℕ). WordOutcome e s l found count errors) so O
+  O′ = word-outcome e i q s block w frame F row rest C D found count errors O
 
   pub word-lost : not found ≡ true → WordRepaired e i q s block w frame false 0 frame
   word-lost n =
@@ -105,12 +174,12 @@ module _ (e i q s : ℕ) (block : List ℕ) (w : ℕ) (frame : List ℕ) (F : Fi
         whenNot = λ y. lost e i q s block w frame F found count errors O′ (not-true found n);
       }
 
-  pub word-found : not found ≡ false → (after : List ℕ) → Put i w (255 - q - 2 * e) symbols errors frame after → WordRepaired e i q s block w frame true count after
+  pub word-found : not found ≡ false → (after : List ℕ) → Put i w (255 - q - 2 * e) block errors frame after → WordRepaired e i q s block w frame true count after
   word-found y after P =
       record {
         size = P .size;
         others = P .others;
-        whenFound = λ t. has e i q s block w frame F found count errors O′ (not-false found y) symbols after so P;
+        whenFound = λ t. has e i q s block w frame F found count errors O′ (not-false found y) after P;
         whenNot = λ n. let z : _≡_ {A = ℕ} 0 1 = cc in absurd (omega arith);
       }
 
@@ -122,19 +191,14 @@ sum-set [] w count h z = absurd (omega arith)
 sum-set (n ∷ counts) zero count h z = omega arith
 sum-set (n ∷ counts) (suc w) count h z = omega (arith, sum-set counts w count (omega arith) z)
 
-sum-zeros : (n : ℕ) → 0 ≡ sum (replicate n 0)
+pub sum-zeros : (n : ℕ) → 0 ≡ sum (replicate n 0)
 unfolding sum
 sum-zeros zero = refl
 sum-zeros (suc n) = omega (arith, sum-zeros n)
 
-zeros-at : (n k : ℕ) → _≡_ {A = ℕ} (getD (replicate n 0) k 0) 0
-zeros-at zero k = refl
-zeros-at (suc n) zero = refl
-zeros-at (suc n) (suc k) = zeros-at n k
-
 module _ (e i q s : ℕ) (block : List ℕ) where
   pub sofar-starts : (frame : List ℕ) → Sofar e i q s block frame (replicate 8 0) 0 0
-  sofar-starts frame = record { each = λ v h. absurd (omega arith); beyond = λ v h. zeros-at 8 v; summed = sum-zeros 8; size = refl }
+  sofar-starts frame = record { each = λ v h. absurd (omega arith); beyond = λ v h. zero-at 8 v; summed = sum-zeros 8; size = refl }
 
   pub few-differ : (w : ℕ) (frame : List ℕ) (count : ℕ) → HasCodeword e i q s block w frame count → count ≤ s
   few-differ w frame count H = omega (arith, H .count-is, H .good .close)

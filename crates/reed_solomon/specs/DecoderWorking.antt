@@ -2,20 +2,40 @@
 use mathlib.Core.Path.{_≡_}
 use mathlib.Core.Bool.{Bool, true, false}
 use mathlib.Core.Logic.{_≢_}
-use mathlib.Core.List.{List}
+use mathlib.Core.List.{List, [], _++_}
 use Prim.Native.Nat.{ℕ, _+_, _-_, _*_, _≤_, _<_}
 use lib.Bits.{bitXor}
-use lib.ListN.{length, getD}
+use lib.ListN.{length, take, getD}
 use Rattle.refusals.specs.Order.{OneOf}
 use Rattle.refusals.specs.Sizes.{strengths, information, frameLength, blockLength}
-use Rattle.codewords.specs.Words.{Good, differing}
-use Rattle.reed_solomon.specs.Blocks.{wordOf, sum}
+use Rattle.codewords.specs.Words.{Codeword, Good, differing, withFill}
+use Rattle.reed_solomon.specs.Blocks.{sentFrom, wordOf, sum}
 use Rattle.reed_solomon.specs.Outcome.{Lost}
 
+-- From octet `first` on the block holds a row's octets, i apart; and from octet `start` on it holds the rows interleaved.
+abbrev pub RowStands : List ℕ → ℕ → ℕ → List ℕ → Type 0
+RowStands row i first block = (j : ℕ) → first + j * i < length block → getD block (first + j * i) 0 ≡ getD row j 0
+
+abbrev pub Standing : List (List ℕ) → ℕ → ℕ → List ℕ → Type 0
+Standing rows i start block = (j w : ℕ) → w < i → start + (j * i + w) < length block → getD block (start + (j * i + w)) 0 ≡ getD (getD rows w []) j 0
+
+-- A row has the checks that make a codeword of word w's information symbols; and so for each word.
+abbrev pub CodedBy : ℕ → ℕ → ℕ → List ℕ → ℕ → List ℕ → Type 0
+CodedBy e i q block w row = Codeword e (withFill q (sentFrom i block w 0 (information e - q) ++ take (e + e) row))
+
+abbrev pub WordRows : ℕ → ℕ → ℕ → List ℕ → List (List ℕ) → Type 0
+WordRows e i q block rows = (w : ℕ) → w < i → CodedBy e i q block w (getD rows w [])
+
+-- The symbols of word w from the first-th to the n-th, each with an octet of a row added, behind zeros.
+pub record Difference (row : List ℕ) (i : ℕ) (block : List ℕ) (w first n : ℕ) (rest : List ℕ) : Type 0 where
+  pub size : length rest ≡ 255
+  pub front : (k : ℕ) → k < first → getD rest k 0 ≡ 0
+  pub checks : (k : ℕ) → first ≤ k → k < n → getD rest k 0 ≡ bitXor (getD row (k - first) 0) (getD block (k * i + w) 0)
+
 -- The first n symbols of word w stand repaired in their places of a frame, and those of the other words are as they were.
-pub record Put (i w n : ℕ) (sent errors before after : List ℕ) : Type 0 where
+pub record Put (i w n : ℕ) (block errors before after : List ℕ) : Type 0 where
   pub size : length after ≡ length before
-  pub here : (k : ℕ) → k < n → getD after (k * i + w) 0 ≡ bitXor (getD sent k 0) (getD errors k 0)
+  pub here : (k : ℕ) → k < n → getD after (k * i + w) 0 ≡ bitXor (getD block (k * i + w) 0) (getD errors k 0)
   pub others : (k v : ℕ) → v < i → v ≢ w → getD after (k * i + v) 0 ≡ getD before (k * i + v) 0
 
 -- Legal numbers, and lists of the lengths that they require.

@@ -1,14 +1,13 @@
 -- What the encoder keeps and writes on the way: rows of check octets, one for each word (document 01, "Codewords").
 use mathlib.Core.Path.{_≡_}
 use mathlib.Core.List.{List, [], _∷_, _++_, map}
-use Prim.Native.Nat.{ℕ, zero, suc, _+_, _-_, _*_, _/_, _%_, _^_, _<_}
+use Prim.Native.Nat.{ℕ, zero, suc, _+_, _*_, _%_, _<_}
 use lib.ListN.{length, take, getD, replicate}
-use Rattle.field.specs.Field.{_⊕_, whereSet}
 use Rattle.refusals.specs.Order.{OneOf}
 use Rattle.refusals.specs.Sizes.{strengths}
 use Rattle.reed_solomon.specs.Rows.{product, entered, inRow, rowsEntered}
 
--- The table of a generator: for each bit of the feedback, top bit first, what that bit alone adds.
+-- The eight rows of a generator: for each bit of the feedback, top bit first, what that bit alone adds.
 unfoldable pub tableRows : List ℕ → List ℕ → List ℕ
 tableRows generator [] = []
 tableRows generator (bit ∷ bits) = map (product bit) generator ++ tableRows generator bits
@@ -20,19 +19,9 @@ tableOf generator = tableRows generator (128 ∷ 64 ∷ 32 ∷ 16 ∷ 8 ∷ 4 �
 abbrev pub StrengthTable : ℕ → List ℕ → Type 0
 StrengthTable e table = table ≡ tableOf (inRow e)
 
--- Each octet of a row stands one place further up, and a zero comes in.
-pub record MovedUp (row moved : List ℕ) : Type 0 where
-  pub size : length moved ≡ 32
-  pub octet : (j : ℕ) → j < 32 → getD moved j 0 ≡ getD row (suc j) 0
-
--- A row with what one bit of the feedback adds, where that bit is set.
-pub record BitAdded (table : List ℕ) (feedback bit : ℕ) (row sum : List ℕ) : Type 0 where
-  pub size : length sum ≡ 32
-  pub octet : (j : ℕ) → j < 32 → getD sum j 0 ≡ getD row j 0 ⊕ whereSet (feedback / 2 ^ (7 - bit) % 2) (getD table (32 * bit + j) 0 % 256)
-
 -- The row when one more symbol of its word has entered, whichever generator the table is of.
-abbrev pub Stepped : List ℕ → List ℕ → ℕ → List ℕ → Type 0
-Stepped table row symbol after = (generator : List ℕ) → length generator ≡ 32 → table ≡ tableOf generator → after ≡ entered generator row symbol
+abbrev pub EnteredBy : List ℕ → List ℕ → ℕ → List ℕ → Type 0
+EnteredBy table row symbol after = (generator : List ℕ) → length generator ≡ 32 → table ≡ tableOf generator → after ≡ entered generator row symbol
 
 -- The checks of word w of a frame of depth i after its first k symbols, in a row of 32.
 unfoldable pub rowAfter : List ℕ → ℕ → List ℕ → ℕ → ℕ → List ℕ

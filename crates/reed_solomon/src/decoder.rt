@@ -1,13 +1,16 @@
-// Decoding of a whole block: each word by itself, and the frame only once the last word is known to be good.
+// Decoding of a whole block: one pass over it gives each word the checks that its information symbols would have; by what those received differ
+// from them its errors are found; and the frame is written only once the last word is known to be good.
 ghost use mathlib.Core.Path.{_≡_};
 ghost use Prim.Native.Nat.{_+_, _-_, _*_, _<_};
 ghost use lib.ListN.{length, replicate};
 ghost use Rattle.reed_solomon.specs.declared.Decoded.the-variants as decoded;
 ghost use Rattle.reed_solomon.specs.Outcome.{DecodeOutcome};
-ghost use Rattle.reed_solomon.specs.DecoderWorking.{Fitting, WordRepaired, Repaired};
+ghost use Rattle.reed_solomon.specs.DecoderWorking.{Fitting, CodedBy, WordRows, WordRepaired, Repaired};
 use crate::Decoded;
 use crate::Decoding;
-use crate::symbols::gathered;
+use crate::encoder::enter;
+use crate::recoding::has_checks;
+use crate::symbols::difference;
 use crate::symbols::put_repaired;
 use octets::copy_front;
 use refusals::Verdict;
@@ -26,14 +29,16 @@ fn repair_word(
     s: u32,
     block: &[u8],
     w: usize,
+    row: [u8; 32],
     frame: &mut [u8],
 ) -> WordRepair
-    requires { ⌜ Fitting e depth fill s (now block) (now frame) × (w < depth) ⌝ }
+    requires { ⌜ Fitting e depth fill s (now block) (now frame) × (w < depth) × CodedBy e depth fill (now block) w row ⌝ }
     ensures { λ r. ⌜ WordRepaired e depth fill s (now (block .entry)) w (now (frame .entry)) (r .found) (r .count) (now (frame .exit)) ⌝ }
 {
     let n = 255 - fill;
-    let sent = gathered(block, depth, w, n);
-    let answer = words::find_errors(e, s, &sent[..n]);
+    let first = n - 2 * (e as usize);
+    let rest = difference(row, block, depth, w, first, n);
+    let answer = words::find_errors(e, s, &rest[..n]);
     let found = answer.found;
     if !found {
         return WordRepair {
@@ -42,7 +47,7 @@ fn repair_word(
         };
     }
     let errors = answer.errors;
-    put_repaired(&sent, &errors, depth, w, n - 2 * (e as usize), frame);
+    put_repaired(block, &errors, depth, w, first, frame);
     WordRepair {
         found: true,
         count: answer.count,
@@ -56,14 +61,23 @@ struct Repair {
     counts: [u8; 8],
 }
 
-fn repair_words(e: u32, depth: usize, fill: usize, s: u32, block: &[u8], frame: &mut [u8]) -> Repair
-    requires { ⌜ Fitting e depth fill s (now block) (now frame) ⌝ }
+fn repair_words(
+    e: u32,
+    depth: usize,
+    fill: usize,
+    s: u32,
+    block: &[u8],
+    rows: [[u8; 32]; 8],
+    frame: &mut [u8],
+) -> Repair
+    requires { ⌜ Fitting e depth fill s (now block) (now frame) × WordRows e depth fill (now block) rows ⌝ }
     ensures { λ r. ⌜ Repaired e depth fill s (now (block .entry)) (r .words) (r .counts) (r .total) (length (now (frame .entry))) (now (frame .exit)) ⌝ }
 {
     let mut counts = [0u8; 8];
     let mut total: u32 = 0;
     for w in 0..depth {
-        let word = repair_word(e, depth, fill, s, block, w, frame);
+        let row = rows[w];
+        let word = repair_word(e, depth, fill, s, block, w, row, frame);
         let found = word.found;
         if !found {
             return Repair {
@@ -94,6 +108,19 @@ fn refused(refusal: WordRefusal) -> Decoding
     }
 }
 
+// Delivered as received: nothing differs.
+fn as_received() -> Decoding
+    ensures { λ r. ⌜ (r .answer ≡ decoded.Delivered) × (r .total ≡ 0) × (r .counts ≡ replicate 8 0) ⌝ }
+{
+    let none = [0u8; 8];
+    Decoding {
+        answer: Decoded::Delivered,
+        total: 0,
+        counts: none,
+    }
+}
+
+// A block that is coded as it stands needs no look at its words one by one.
 pub fn decode(e: u32, depth: u32, fill: u32, s: u32, block: &[u8], frame: &mut [u8]) -> Decoding
     ensures { λ r. ⌜ DecodeOutcome e depth fill s (now (block .entry)) (now (frame .entry)) (r .answer) (r .counts) (r .total) (now (frame .exit)) ⌝ }
 {
@@ -103,8 +130,14 @@ pub fn decode(e: u32, depth: u32, fill: u32, s: u32, block: &[u8], frame: &mut [
     }
     let words = depth as usize;
     let n = frame.len();
+    let mut rows = [[0u8; 32]; 8];
+    enter(e, &mut rows, 0, &block[..n], words);
+    if has_checks(rows, words, n, block) {
+        copy_front(&block[..n], frame);
+        return as_received();
+    }
     let mut repaired = [0u8; 2040];
-    let repair = repair_words(e, words, fill as usize, s, block, &mut repaired);
+    let repair = repair_words(e, words, fill as usize, s, block, rows, &mut repaired);
     let good = repair.words;
     if good < words {
         return refused(WordRefusal::NoCodeword(good as u32));

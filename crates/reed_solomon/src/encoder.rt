@@ -1,33 +1,79 @@
 // Encoding of a whole frame: its words' checks, and the block with frame and checks.
 ghost use mathlib.Core.Path.{_≡_};
-ghost use Prim.Native.Nat.{_+_, _*_, _≤_, _<_};
+ghost use mathlib.Core.List.{List};
+ghost use Prim.Native.Nat.{ℕ, _+_, _*_, _≤_, _<_};
 ghost use lib.ListN.{length};
+ghost use Rattle.check_rows.specs.Rows.{SumTable};
 ghost use Rattle.refusals.specs.Order.{OneOf};
 ghost use Rattle.refusals.specs.Sizes.{strengths};
-ghost use Rattle.reed_solomon.specs.EncoderWorking.{RowsBy, RowsOn, ChecksPut};
+ghost use Rattle.reed_solomon.specs.EncoderWorking.{EnteredBy, RowsBy, RowsOn, ChecksPut};
 ghost use Rattle.reed_solomon.specs.Outcome.{EncodeOutcome};
-use crate::checks::stepped;
 use crate::table_8::TABLE_8;
 use crate::table_16::TABLE_16;
+use check_rows::stepped_by_bits;
+use check_rows::stepped_by_table;
+use check_rows::table_of;
 use octets::copy_front;
 use refusals::Verdict;
 
+// A row and a symbol by value, as octets that are known to be octets.
+fn entered_by_bits(bits: &[u8; 256], row: [u8; 32], symbol: u8) -> [u8; 32]
+    ensures { λ r. ⌜ EnteredBy (now (bits .entry)) row symbol r ⌝ }
+{
+    stepped_by_bits(bits, row, symbol)
+}
+
+fn entered_by_table(table: &[u8; 8192], row: [u8; 32], symbol: u8) -> [u8; 32]
+    ensures { λ r. ⌜ ((bits : List ℕ) → SumTable bits (now (table .entry)) → EnteredBy bits row symbol r) ⌝ }
+{
+    stepped_by_table(table, row, symbol)
+}
+
 // The symbols enter in turn from word `first` on, whole frame or portion: a counter that starts anew spares a division for each symbol.
-// The table comes by value: of a local the compiler knows that no lent row is a part of it, and keeps it in registers.
-fn enter_by(table: [u8; 256], rows: &mut [[u8; 32]; 8], first: usize, symbols: &[u8], depth: usize)
+// The eight rows come by value: of a local the compiler knows that no lent row is a part of it, and keeps it in registers.
+fn enter_few(bits: [u8; 256], rows: &mut [[u8; 32]; 8], first: usize, symbols: &[u8], depth: usize)
     requires { ⌜ (first < depth) × (depth ≤ 8) × (length (now rows) ≡ 8) ⌝ }
-    ensures { λ _. ⌜ RowsBy table depth first (now (rows .entry)) (now (symbols .entry)) (now (rows .exit)) ⌝ }
+    ensures { λ _. ⌜ RowsBy bits depth first (now (rows .entry)) (now (symbols .entry)) (now (rows .exit)) ⌝ }
 {
     let mut word = first;
     let n = symbols.len();
     for at in 0..n {
         let row = rows[word];
-        rows[word] = stepped(&table, row, symbols[at]);
+        rows[word] = entered_by_bits(&bits, row, symbols[at]);
         word += 1;
         if word == depth {
             word = 0;
         }
     }
+}
+
+// The same by the table of all 256 rows, which is built first.
+fn enter_many(bits: [u8; 256], rows: &mut [[u8; 32]; 8], first: usize, symbols: &[u8], depth: usize)
+    requires { ⌜ (first < depth) × (depth ≤ 8) × (length (now rows) ≡ 8) ⌝ }
+    ensures { λ _. ⌜ RowsBy bits depth first (now (rows .entry)) (now (symbols .entry)) (now (rows .exit)) ⌝ }
+{
+    let table = table_of(&bits);
+    let mut word = first;
+    let n = symbols.len();
+    for at in 0..n {
+        let row = rows[word];
+        rows[word] = entered_by_table(&table, row, symbols[at]);
+        word += 1;
+        if word == depth {
+            word = 0;
+        }
+    }
+}
+
+// To build the table takes as long as a hundred steps by bits.
+fn enter_by(bits: [u8; 256], rows: &mut [[u8; 32]; 8], first: usize, symbols: &[u8], depth: usize)
+    requires { ⌜ (first < depth) × (depth ≤ 8) × (length (now rows) ≡ 8) ⌝ }
+    ensures { λ _. ⌜ RowsBy bits depth first (now (rows .entry)) (now (symbols .entry)) (now (rows .exit)) ⌝ }
+{
+    if symbols.len() < 100 {
+        return enter_few(bits, rows, first, symbols, depth);
+    }
+    enter_many(bits, rows, first, symbols, depth)
 }
 
 pub(crate) fn enter(e: u32, rows: &mut [[u8; 32]; 8], first: usize, symbols: &[u8], depth: usize)
@@ -49,8 +95,7 @@ pub(crate) fn put_checks(rows: [[u8; 32]; 8], depth: usize, start: usize, block:
     let mut check = 0usize;
     let n = block.len();
     for at in start..n {
-        let checks = rows[word];
-        block[at] = checks[check];
+        block[at] = rows[word][check];
         word += 1;
         if word == depth {
             word = 0;

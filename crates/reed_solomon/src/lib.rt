@@ -1,8 +1,8 @@
 // The Reed-Solomon coder with interleaving and virtual fill.
-mod checks;
 mod decoder;
 mod encoder;
 mod piecewise;
+mod recoding;
 mod symbols;
 mod table_16;
 mod table_8;

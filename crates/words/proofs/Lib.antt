@@ -9,3 +9,4 @@ pub mod Conversions
 pub mod Decisions
 pub mod Outcomes
 pub mod Settled
+pub mod OutcomesAdded

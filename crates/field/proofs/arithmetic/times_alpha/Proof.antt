@@ -1,14 +1,16 @@
--- `times_alpha` shifts, and reduces where the top bit was set.
+-- `times_alpha` shifts, and reduces by the top bit, as a factor.
+use mathlib.Core.Path.{refl}
+use native.Mathlib.Omega.{arith}
 use borrow.Author.Needs.{needs}
-use Rattle.field.proofs.Turns.{alpha-low, alpha-high}
+use Rattle.field.proofs.Turns.{alpha-is}
 use Rattle.field.proofs.arithmetic.times_alpha.Statement.{statement}
 use Rattle.field.proofs.arithmetic.times_alpha.Tie as tie
 
-returns : tie.Need-returns
-returns c = alpha-low (c .before .args .a) (search needs)
+mul-result : tie.Need-mul-result
+mul-result c = search needs
 
-returns-2 : tie.Need-returns-2
-returns-2 c = alpha-high (c .before .args .a) (search needs) (search needs)
+returns : tie.Need-returns
+returns c = alpha-is (c .args .a) _ (search needs) refl
 
 pub times-alpha-spec : {M : Type 1} → statement M
-times-alpha-spec = tie.close (tie.spec returns returns-2)
+times-alpha-spec = tie.close (tie.spec mul-result returns)

@@ -12,38 +12,60 @@ use Rattle.reed_solomon.proofs.decoder.repair_words.Statement.{statemen
 use Rattle.reed_solomon.proofs.decoder.repair_words.Tie as tie
 
 abbrev Inv-loop : tie.InvT-loop
-Inv-loop e depth fill s block frame₀ counts₀ total₀ w₀ frame counts total w =
+Inv-loop e depth fill s block frame₀ rows counts₀ total₀ w₀ frame counts total w =
     (w ≤ depth) × (length frame ≡ length frame₀) × Sofar e depth fill s block frame counts total w × (total ≤ 16 * w) × Fitting e depth fill s block frame
 
 abbrev μ-loop : tie.MeasureT-loop
-μ-loop e depth fill s block frame₀ counts₀ total₀ w₀ frame counts total w = depth - w
+μ-loop e depth fill s block frame₀ rows counts₀ total₀ w₀ frame counts total w = depth - w
 
 loop-holds : tie.Need-loop-holds Inv-loop μ-loop
-loop-holds c = (omega arith, refl, sofar-starts _ _ _ _ _ _, omega arith, c .before .before .pre)
+loop-holds c = (omega arith, refl, sofar-starts _ _ _ _ _ _, omega arith, c .before .before .pre .0)
+
+mul-row : tie.Need-mul-row Inv-loop μ-loop
+mul-row c = search needs
+
+array-copy-out-row : tie.Need-array-copy-out-row Inv-loop μ-loop
+array-copy-out-row c = omega (arith, c .before .loop .inv .4 .deep)
 
 repair-word-requires : tie.Need-repair-word-requires Inv-loop μ-loop
-repair-word-requires c κs = (c .before .before .loop .inv .4, omega arith)
+repair-word-requires c κs = (c .before .before .before .loop .inv .4, omega arith, c .before .before .before .before .before .before .pre .1 (c .before .before .before .loop .w) (omega arith))
 
 same-length : tie.Need-same-length Inv-loop μ-loop
-same-length c = c .before .before .before .repair-word .ensures .size ∙ c .before .before .before .before .before .before .loop .inv .1
+same-length c = c .before .before .before .repair-word .ensures .size ∙ c .before .before .before .before .before .before .before .loop .inv .1
 
 returns : tie.Need-returns Inv-loop μ-loop
 returns c =
+    let start = c .before .before .before .before .before .before .before .before .before .before in
+    let at = c .before .before .before .before .before .before .before .loop in
+    let word = c .before .before .before .repair-word in
     record {
-      reached = c .before .before .before .before .before .before .loop .inv .0;
-      sofar = sofar-stops (c .before .before .before .before .before .before .before .before .before .args .e) (c .before .before .before .before .before .before .before .before .before .args .depth) (c .before .before .before .before .before .before .before .before .before .args .fill) (c .before .before .before .before .before .before .before .before .before .args .s) (c .before .before .before .before .before .before .before .before .before .args .block .now) (c .before .before .before .before .before .before .loop .frame) (c .before .before .before .before .before .before .loop .counts) (c .before .before .before .before .before .before .loop .total) (c .before .before .before .before .before .before .loop .w) (c .before .before .before .repair-word .result .found) (c .before .before .before .repair-word .result .count) _ (omega arith) (c .before .before .before .before .before .before .loop .inv .2) (c .before .before .before .repair-word .ensures);
-      stopped = λ h. c .before .before .before .repair-word .ensures .whenNot (not-true _ (c .if1 .taken));
-      size = c .before .before .before .repair-word .ensures .size ∙ c .before .before .before .before .before .before .loop .inv .1;
+      reached = at .inv .0;
+      sofar = sofar-stops (start .args .e) (start .args .depth) (start .args .fill) (start .args .s) (start .args .block .now) (at .frame) (at .counts) (at .total) (at .w) (word .result .found) (word .result .count) _ (omega arith) (at .inv .2) (word .ensures);
+      stopped = λ h. word .ensures .whenNot (not-true _ (c .if1 .taken));
+      size = word .ensures .size ∙ at .inv .1;
     }
 
+-- the word was found, and few of its symbols differ
+few : (c : tie.Else1 Inv-loop μ-loop) → c .before .before .before .repair-word .result .count ≤ 16
+few c =
+    let start = c .before .before .before .before .before .before .before .before .before .before in
+    let at = c .before .before .before .before .before .before .before .loop in
+    let word = c .before .before .before .repair-word in
+    omega (
+      arith,
+      few-differ (start .args .e) (start .args .depth) (start .args .fill) (start .args .s) (start .args .block .now) (at .w) _ (word .result .count) (word .ensures .whenFound (not-false _ (c .if1 .left))),
+      at .inv .4 .allowance,
+      strength-bounds _ (at .inv .4 .strength) .1,
+    )
+
 cast-counts : tie.Need-cast-counts Inv-loop μ-loop
-cast-counts c = omega (arith, few-differ (c .before .before .before .before .before .before .before .before .before .args .e) (c .before .before .before .before .before .before .before .before .before .args .depth) (c .before .before .before .before .before .before .before .before .before .args .fill) (c .before .before .before .before .before .before .before .before .before .args .s) (c .before .before .before .before .before .before .before .before .before .args .block .now) (c .before .before .before .before .before .before .loop .w) _ (c .before .before .before .repair-word .result .count) (c .before .before .before .repair-word .ensures .whenFound (not-false _ (c .if1 .left))), c .before .before .before .before .before .before .loop .inv .4 .allowance, strength-bounds _ (c .before .before .before .before .before .before .loop .inv .4 .strength) .1)
+cast-counts c = omega (arith, few c)
 
 array-write-counts : tie.Need-array-write-counts Inv-loop μ-loop
-array-write-counts c = omega (arith, c .before .before .before .before .before .before .loop .inv .4 .deep)
+array-write-counts c = omega (arith, c .before .before .before .before .before .before .before .loop .inv .4 .deep)
 
 add-total : tie.Need-add-total Inv-loop μ-loop
-add-total c = omega (arith, few-differ (c .before .before .before .before .before .before .before .before .before .args .e) (c .before .before .before .before .before .before .before .before .before .args .depth) (c .before .before .before .before .before .before .before .before .before .args .fill) (c .before .before .before .before .before .before .before .before .before .args .s) (c .before .before .before .before .before .before .before .before .before .args .block .now) (c .before .before .before .before .before .before .loop .w) _ (c .before .before .before .repair-word .result .count) (c .before .before .before .repair-word .ensures .whenFound (not-false _ (c .if1 .left))), c .before .before .before .before .before .before .loop .inv .4 .allowance, c .before .before .before .before .before .before .loop .inv .4 .deep, strength-bounds _ (c .before .before .before .before .before .before .loop .inv .4 .strength) .1)
+add-total c = omega (arith, few c, c .before .before .before .before .before .before .before .loop .inv .4 .deep)
 
 add-w : tie.Need-add-w Inv-loop μ-loop
 add-w c = search needs
@@ -52,13 +74,17 @@ loop-less : tie.Need-loop-less Inv-loop μ-loop
 loop-less c = search needs
 
 loop-again : tie.Need-loop-again Inv-loop μ-loop
-loop-again c = (
-  omega arith,
-  c .before .before .before .repair-word .ensures .size ∙ c .before .before .before .before .before .before .loop .inv .1,
-  sofar-turn (c .before .before .before .before .before .before .before .before .before .args .e) (c .before .before .before .before .before .before .before .before .before .args .depth) (c .before .before .before .before .before .before .before .before .before .args .fill) (c .before .before .before .before .before .before .before .before .before .args .s) (c .before .before .before .before .before .before .before .before .before .args .block .now) (c .before .before .before .before .before .before .loop .frame) (c .before .before .before .before .before .before .loop .counts) (c .before .before .before .before .before .before .loop .total) (c .before .before .before .before .before .before .loop .w) (c .before .before .before .repair-word .result .found) (c .before .before .before .repair-word .result .count) _ (omega arith) (c .before .before .before .before .before .before .loop .inv .2) (c .before .before .before .repair-word .ensures) (c .before .before .before .before .before .before .loop .inv .4 .deep) (not-false _ (c .if1 .left)),
-  omega (arith, few-differ (c .before .before .before .before .before .before .before .before .before .args .e) (c .before .before .before .before .before .before .before .before .before .args .depth) (c .before .before .before .before .before .before .before .before .before .args .fill) (c .before .before .before .before .before .before .before .before .before .args .s) (c .before .before .before .before .before .before .before .before .before .args .block .now) (c .before .before .before .before .before .before .loop .w) _ (c .before .before .before .repair-word .result .count) (c .before .before .before .repair-word .ensures .whenFound (not-false _ (c .if1 .left))), c .before .before .before .before .before .before .loop .inv .4 .allowance, strength-bounds _ (c .before .before .before .before .before .before .loop .inv .4 .strength) .1),
-  still-fits _ _ _ _ _ _ _ (c .before .before .before .repair-word .ensures .size) (c .before .before .before .before .before .before .loop .inv .4),
-)
+loop-again c =
+    let start = c .before .before .before .before .before .before .before .before .before .before in
+    let at = c .before .before .before .before .before .before .before .loop in
+    let word = c .before .before .before .repair-word in
+    (
+      omega arith,
+      word .ensures .size ∙ at .inv .1,
+      sofar-turn (start .args .e) (start .args .depth) (start .args .fill) (start .args .s) (start .args .block .now) (at .frame) (at .counts) (at .total) (at .w) (word .result .found) (word .result .count) _ (omega arith) (at .inv .2) (word .ensures) (at .inv .4 .deep) (not-false _ (c .if1 .left)),
+      omega (arith, few c),
+      still-fits _ _ _ _ _ _ _ (word .ensures .size) (at .inv .4),
+    )
 
 same-length-2 : tie.Need-same-length-2 Inv-loop μ-loop
 same-length-2 c = search needs
@@ -75,6 +101,8 @@ repair-words-spec =
     Inv-loop
     μ-loop
     loop-holds
+    mul-row
+    array-copy-out-row
     repair-word-requires
     same-length
     returns

@@ -1,77 +1,19 @@
--- `enter_by` lets each octet enter the row of its word: the rows are those that the octets so far have entered.
-use mathlib.Core.Path.{refl}
-use mathlib.Core.Logic.{⊎-elim}
-use Prim.Native.Nat.{_≤_, _-_}
-use native.Mathlib.Omega.{arith}
-use lib.ListN.{length}
-use Rattle.reed_solomon.proofs.RowTurns.{Turn, turn-start, turn-symbol, turn-word, turn-end}
+-- `enter_by`: few or many, the symbols enter alike.
 use borrow.Author.Needs.{needs}
 use Rattle.reed_solomon.proofs.encoder.enter_by.Statement.{statement}
 use Rattle.reed_solomon.proofs.encoder.enter_by.Tie as tie
 
-abbrev Inv-loop : tie.InvT-loop
-Inv-loop rows₀ first symbols depth table word₀ n at₀ rows word at = (at ≤ length symbols) × Turn table depth first rows₀ symbols at word rows
+enter-few-requires : tie.Need-enter-few-requires
+enter-few-requires c κs = search needs
 
-abbrev μ-loop : tie.MeasureT-loop
-μ-loop rows₀ first symbols depth table word₀ n at₀ rows word at = length symbols - at
+returns : tie.Need-returns
+returns c = c .enter-few .ensures
 
-loop-holds : tie.Need-loop-holds Inv-loop μ-loop
-loop-holds c = (omega arith, turn-start _ _ _ _ _ (search needs) (search needs))
+enter-many-requires : tie.Need-enter-many-requires
+enter-many-requires c κs = search needs
 
-mul-row : tie.Need-mul-row Inv-loop μ-loop
-mul-row c = search needs
-
-element-copy-out-row : tie.Need-element-copy-out-row Inv-loop μ-loop
-element-copy-out-row c = search needs
-
-shared-slice-read-stepped : tie.Need-shared-slice-read-stepped Inv-loop μ-loop
-shared-slice-read-stepped c = search needs
-
-stepped-requires : tie.Need-stepped-requires Inv-loop μ-loop
-stepped-requires c κs = search needs
-
-mul-t12 : tie.Need-mul-t12 Inv-loop μ-loop
-mul-t12 c = search needs
-
-element-set-from-rows : tie.Need-element-set-from-rows Inv-loop μ-loop
-element-set-from-rows c = search needs
-
-add-word : tie.Need-add-word Inv-loop μ-loop
-add-word c = search needs
-
-add-at : tie.Need-add-at Inv-loop μ-loop
-add-at c = search needs
-
-loop-less : tie.Need-loop-less Inv-loop μ-loop
-loop-less c = search needs
-
-loop-again : tie.Need-loop-again Inv-loop μ-loop
-loop-again c = (
-  omega arith,
-  ⊎-elim
-      (λ w. turn-symbol _ _ _ _ _ _ (c .before .before .before .before .before .before .loop .word) _ _ _ (c .before .before .before .before .before .before .loop .inv .1) (omega arith) refl (c .before .stepped .ensures) _ (w .1) (w .0 .taken))
-      (λ w. turn-word _ _ _ _ _ _ (c .before .before .before .before .before .before .loop .word) _ _ _ (c .before .before .before .before .before .before .loop .inv .1) (omega arith) refl (c .before .stepped .ensures) _ (w .1) (w .0 .left))
-      (c .if1 .came),
-)
-
-returns : tie.Need-returns Inv-loop μ-loop
-returns c = turn-end _ _ _ _ _ (c .before .loop .at) _ _ (omega arith) (c .before .loop .inv .1)
+returns-2 : tie.Need-returns-2
+returns-2 c = c .enter-many .ensures
 
 pub enter-by-spec : {M : Type 1} → statement M
-enter-by-spec =
-    tie.close
-    (tie.spec
-    Inv-loop
-    μ-loop
-    loop-holds
-    mul-row
-    element-copy-out-row
-    shared-slice-read-stepped
-    stepped-requires
-    mul-t12
-    element-set-from-rows
-    add-word
-    add-at
-    loop-less
-    loop-again
-    returns)
+enter-by-spec = tie.close (tie.spec enter-few-requires returns enter-many-requires returns-2)

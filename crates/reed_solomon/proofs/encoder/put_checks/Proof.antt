@@ -4,7 +4,7 @@ use mathlib.Core.Logic.{⊎-elim}
 use Prim.Native.Nat.{_≤_, _-_, _<_, _+_, _*_}
 use native.Mathlib.Omega.{arith}
 use lib.ListN.{length}
-use Rattle.reed_solomon.proofs.Filling.{Filled, filled-start, filled-turn, filled-before}
+use Rattle.check_rows.proofs.Filling.{Filled, filled-start, filled-turn, filled-before}
 use Rattle.reed_solomon.proofs.Interleaving.{symbol-below, next-word, next-symbol, interleaved, interleaved-at}
 use borrow.Author.Needs.{needs}
 use Rattle.reed_solomon.proofs.encoder.put_checks.Statement.{statement}
@@ -20,14 +20,14 @@ abbrev μ-loop : tie.MeasureT-loop
 loop-holds : tie.Need-loop-holds Inv-loop μ-loop
 loop-holds c = (omega arith, omega arith, omega arith, omega arith, filled-start _ _ _)
 
-mul-checks : tie.Need-mul-checks Inv-loop μ-loop
-mul-checks c = search needs
+mul-block : tie.Need-mul-block Inv-loop μ-loop
+mul-block c = search needs
 
-array-copy-out-checks : tie.Need-array-copy-out-checks Inv-loop μ-loop
-array-copy-out-checks c = search needs
+index-1-block : tie.Need-index-1-block Inv-loop μ-loop
+index-1-block c = search needs
 
-array-read-block : tie.Need-array-read-block Inv-loop μ-loop
-array-read-block c = omega (arith, symbol-below (c .before .before .before .args .depth) (c .before .before .loop .check) 32 (c .before .before .loop .word) (omega arith))
+index-2-block : tie.Need-index-2-block Inv-loop μ-loop
+index-2-block c = omega (arith, symbol-below (c .before .before .args .depth) (c .before .loop .check) 32 (c .before .loop .word) (omega arith))
 
 slice-write-block : tie.Need-slice-write-block Inv-loop μ-loop
 slice-write-block c = search needs
@@ -70,9 +70,9 @@ put-checks-spec =
     Inv-loop
     μ-loop
     loop-holds
-    mul-checks
-    array-copy-out-checks
-    array-read-block
+    mul-block
+    index-1-block
+    index-2-block
     slice-write-block
     add-word
     add-check
