@@ -8,7 +8,7 @@ ghost use Rattle.reed_solomon.specs.Outcome.{DecodeOutcome};
 ghost use Rattle.reed_solomon.specs.DecoderWorking.{Fitting, CodedBy, WordRows, WordRepaired, Repaired};
 use crate::Decoded;
 use crate::Decoding;
-use crate::encoder::enter;
+use crate::recoding::front_rows;
 use crate::recoding::has_checks;
 use crate::symbols::difference;
 use crate::symbols::put_repaired;
@@ -130,8 +130,7 @@ pub fn decode(e: u32, depth: u32, fill: u32, s: u32, block: &[u8], frame: &mut [
     }
     let words = depth as usize;
     let n = frame.len();
-    let mut rows = [[0u8; 32]; 8];
-    enter(e, &mut rows, 0, &block[..n], words);
+    let rows = front_rows(e, words, n, block);
     if has_checks(rows, words, n, block) {
         copy_front(&block[..n], frame);
         return as_received();

@@ -1,9 +1,24 @@
-// Whether a block is coded as it stands: its checks are the rows that its own front gives.
+// The rows of checks that a block's own front gives; and whether it is coded as it stands: they are its checks.
 ghost use mathlib.Core.Path.{_≡_};
 ghost use mathlib.Core.Bool.{true};
 ghost use Prim.Native.Nat.{_+_, _*_, _≤_, _<_};
-ghost use lib.ListN.{length};
+ghost use lib.ListN.{length, take};
+ghost use Rattle.refusals.specs.Order.{OneOf};
+ghost use Rattle.refusals.specs.Sizes.{strengths};
+ghost use Rattle.reed_solomon.specs.Rows.{noRows};
+ghost use Rattle.reed_solomon.specs.EncoderWorking.{RowsOn};
 ghost use Rattle.reed_solomon.specs.DecoderWorking.{RowStands, Standing};
+use crate::encoder::enter;
+
+// The words enter together, as in the encoder: one after the other each would wait for its own feedback.
+pub(crate) fn front_rows(e: u32, depth: usize, n: usize, block: &[u8]) -> [[u8; 32]; 8]
+    requires { ⌜ OneOf strengths e × (0 < depth) × (depth ≤ 8) × (n ≤ length (now block)) ⌝ }
+    ensures { λ r. ⌜ RowsOn e depth 0 noRows (take n (now (block .entry))) r ⌝ }
+{
+    let mut rows = [[0u8; 32]; 8];
+    enter(e, &mut rows, 0, &block[..n], depth);
+    rows
+}
 
 // Whether a row's octets stand in the block from `first` on, `depth` octets apart.
 fn row_stands(row: [u8; 32], depth: usize, first: usize, block: &[u8]) -> bool

@@ -14,7 +14,14 @@ fn octet_of(k: usize, depth: usize, w: usize) -> usize
 
 // What the checks of word w, from the first to the n-th symbol, differ by from a row of checks, behind zeros: the word less the codeword with
 // its information symbols and that row.
-pub(crate) fn difference(row: [u8; 32], block: &[u8], depth: usize, w: usize, first: usize, n: usize) -> [u8; 255]
+pub(crate) fn difference(
+    row: [u8; 32],
+    block: &[u8],
+    depth: usize,
+    w: usize,
+    first: usize,
+    n: usize,
+) -> [u8; 255]
     requires { ⌜ (first ≤ n) × (n ≤ 255) × (n ≤ first + 32) × (depth ≤ 8) × (w < depth) × (n * depth ≤ length (now block)) ⌝ }
     ensures { λ r. ⌜ Difference row depth (now (block .entry)) w first n r ⌝ }
 {

@@ -1,21 +1,21 @@
--- Polynomials coefficient by coefficient, as arrays hold them with zeros above: the loops that pair, blend, evaluate and divide.
+-- Polynomials coefficient by coefficient, as arrays hold them with zeros above: the loops that pair and multiply.
 use mathlib.Core.Path.{_≡_, refl, sym, ap, ap₂, _∙_}
 use mathlib.Core.List.{List, [], _∷_}
 use Prim.Native.Nat.{ℕ, zero, suc, _+_, _-_, _≤_, _<_}
 use native.Mathlib.Nat.{not-suc-le-zero, zero-add, suc-add, add-zero, add-suc, le-of-suc-le-suc, add-sub-of-le}
 use native.Mathlib.Omega.{arith}
-use native.Mathlib.Decide.{decLt, ℕ-discrete}
+use native.Mathlib.Decide.{decLt}
 use native.Mathlib.Numerals.{add-one}
-use lib.ListN.{length, getD, take, drop, set, length-set, length-take, length-drop, drop-of-length-le, replicate, List·getD-eq-default}
-use lib.Seq.{drop-cons, getD-drop, getD-take, getD-set-same, getD-set-other, take-all}
+use lib.ListN.{length, getD, take, drop, set, length-take, length-drop, drop-of-length-le, replicate, List·getD-eq-default}
+use lib.Seq.{drop-cons, getD-drop, getD-take, take-all}
 use lib.Bits.{bitXor}
 use Rattle.field.specs.Field.{_⊕_, _·_}
 use Rattle.field.proofs.Sum.{⊕-is, ⊕-assoc, ⊕-zero, zero-⊕}
 use Rattle.field.proofs.Product.{·-zero, zero-·}
-use Rattle.codewords.specs.Polynomials.{eval, _⊞_, scaled, shiftBy, byRoot, blend, quot, dot}
+use Rattle.codewords.specs.Polynomials.{eval, _⊞_, scaled, shiftBy, byRoot, quot, dot}
 use Rattle.codewords.proofs.Roots.{length-byRoot}
-use Rattle.words.specs.Working.{Filled, Same, terms, blendedAt, byRootAt, windowed}
-use Rattle.words.proofs.Arrays.{sum-turn, zero-at}
+use Rattle.words.specs.Working.{Filled, Same, terms, byRootAt, windowed}
+use Rattle.words.proofs.Arrays.{filled-turn, sum-turn, zero-at}
 
 -- ---- one coefficient
 
@@ -26,21 +26,17 @@ at-⊞ (a ∷ p) [] j = sym (⊕-zero (getD (a ∷ p) j 0))
 at-⊞ (a ∷ p) (b ∷ q) zero = refl
 at-⊞ (a ∷ p) (b ∷ q) (suc j) = at-⊞ p q j
 
-at-scaled : (c : ℕ) (p : List ℕ) (j : ℕ) → getD (scaled c p) j 0 ≡ c · getD p j 0
+pub at-scaled : (c : ℕ) (p : List ℕ) (j : ℕ) → getD (scaled c p) j 0 ≡ c · getD p j 0
 unfolding scaled
 at-scaled c [] j = sym (·-zero c)
 at-scaled c (a ∷ p) zero = refl
 at-scaled c (a ∷ p) (suc j) = at-scaled c p j
 
-at-blend : (b d : ℕ) (p q : List ℕ) (j : ℕ) → getD (blend b d p q) j 0 ≡ blendedAt b d p q j
-unfolding blend blendedAt
-at-blend b d p q j = at-⊞ (scaled b p) (scaled d q) j ∙ ap₂ (λ (x y : ℕ). x ⊕ y) (at-scaled b p j) (at-scaled d q j)
-
 at-byRoot : (z : ℕ) (p : List ℕ) (j : ℕ) → getD (byRoot z p) j 0 ≡ byRootAt z p j
 unfolding byRoot byRootAt shiftBy
 at-byRoot z p j = at-⊞ (0 ∷ p) (scaled z p) j ∙ ap (λ (u : ℕ). getD (0 ∷ p) j 0 ⊕ u) (at-scaled z p j)
 
-pub at-shift-low : (k : ℕ) (p : List ℕ) (j : ℕ) → j < k → getD (shiftBy k p) j 0 ≡ 0
+at-shift-low : (k : ℕ) (p : List ℕ) (j : ℕ) → j < k → getD (shiftBy k p) j 0 ≡ 0
 unfolding shiftBy
 at-shift-low zero p j h = absurd (not-suc-le-zero h)
 at-shift-low (suc k) p zero h = refl
@@ -51,10 +47,10 @@ unfolding shiftBy
 at-shift-up zero p j = ap (λ (i : ℕ). getD p i 0) (zero-add j)
 at-shift-up (suc k) p j = ap (λ (i : ℕ). getD (0 ∷ shiftBy k p) i 0) (suc-add k j) ∙ at-shift-up k p j
 
-pub at-shift-high : (k : ℕ) (p : List ℕ) (j : ℕ) → k ≤ j → getD p (j - k) 0 ≡ getD (shiftBy k p) j 0
+at-shift-high : (k : ℕ) (p : List ℕ) (j : ℕ) → k ≤ j → getD p (j - k) 0 ≡ getD (shiftBy k p) j 0
 at-shift-high k p j h = sym (at-shift-up k p (j - k)) ∙ ap (λ (i : ℕ). getD (shiftBy k p) i 0) (add-sub-of-le h)
 
-at-quot : (p : List ℕ) (z j : ℕ) → getD (quot p z) j 0 ≡ eval (drop (suc j) p) z
+pub at-quot : (p : List ℕ) (z j : ℕ) → getD (quot p z) j 0 ≡ eval (drop (suc j) p) z
 unfolding quot eval
 at-quot [] z zero = refl
 at-quot [] z (suc j) = refl
@@ -62,6 +58,22 @@ at-quot (c ∷ []) z zero = refl
 at-quot (c ∷ []) z (suc j) = refl
 at-quot (c ∷ d ∷ p) z zero = refl
 at-quot (c ∷ d ∷ p) z (suc j) = at-quot (d ∷ p) z j
+
+-- ---- from a coefficient on
+
+pub eval-drop : (q : List ℕ) (k z : ℕ) → eval (drop k q) z ≡ getD q k 0 ⊕ z · eval (drop (suc k) q) z
+unfolding eval
+eval-drop [] zero z = sym (simp (·-zero, zero-⊕))
+eval-drop [] (suc k) z = sym (simp (·-zero, zero-⊕))
+eval-drop (c ∷ q) zero z = refl
+eval-drop (c ∷ q) (suc k) z = eval-drop q k z
+
+pub dot-drop : (S : ℕ → ℕ) (q : List ℕ) (n k : ℕ) → dot S n (drop k q) ≡ getD q k 0 · S n ⊕ dot S (suc n) (drop (suc k) q)
+unfolding dot
+dot-drop S [] n zero = sym (simp (zero-·, zero-⊕))
+dot-drop S [] n (suc k) = sym (simp (zero-·, zero-⊕))
+dot-drop S (c ∷ q) n zero = refl
+dot-drop S (c ∷ q) n (suc k) = dot-drop S q n k
 
 -- ---- lists with the same coefficients
 
@@ -85,7 +97,7 @@ pub quot-same : (p q : List ℕ) (z : ℕ) → Same p q → Same (quot p z) (quo
 quot-same p q z h i =
     at-quot p z i ∙ eval-same (drop (suc i) p) (drop (suc i) q) z (λ j. getD-drop (suc i) p j 0 ∙ h (suc i + j) ∙ sym (getD-drop (suc i) q j 0)) ∙ sym (at-quot q z i)
 
-pub shift-same : (k : ℕ) (p q : List ℕ) → Same p q → Same (shiftBy k p) (shiftBy k q)
+shift-same : (k : ℕ) (p q : List ℕ) → Same p q → Same (shiftBy k p) (shiftBy k q)
 shift-same k p q h j =
     elim (decLt j k) [
       | yes l ↦ at-shift-low k p j l ∙ sym (at-shift-low k q j l)
@@ -101,22 +113,17 @@ take-same n a p h e j =
     ]
 
 -- an array of 33 is the polynomial, if that has no more coefficients
-filled-same : (f : ℕ → ℕ) (out p : List ℕ) → Filled f 33 out 33 → ((j : ℕ) → f j ≡ getD p j 0) → length p ≤ 33 → Same out p
+filled-same : (f : ℕ → ℕ) (out p : List ℕ) → Filled f 33 out 33 → ((j : ℕ) → j < 33 → f j ≡ getD p j 0) → length p ≤ 33 → Same out p
 filled-same f out p F e h j =
     elim (decLt j 33) [
-      | yes l ↦ F .each j l ∙ e j
+      | yes l ↦ F .each j l ∙ e j l
       | no l ↦ List·getD-eq-default out 0 (omega (arith, F .size)) ∙ sym (List·getD-eq-default p 0 (omega arith))
     ]
-
-pub blended-same : (b d : ℕ) (p q p′ q′ out : List ℕ) → Filled (blendedAt b d p q) 33 out 33 → Same p p′ → Same q q′ → length (blend b d p′ q′) ≤ 33 → Same out (blend b d p′ q′)
-unfolding blendedAt
-blended-same b d p q p′ q′ out F hp hq =
-    filled-same (blendedAt b d p q) out (blend b d p′ q′) F (λ j. ap₂ (λ (x y : ℕ). b · x ⊕ d · y) (hp j) (hq j) ∙ sym (at-blend b d p′ q′ j))
 
 pub byRoot-same : (z : ℕ) (p q out : List ℕ) → Filled (byRootAt z p) 33 out 33 → Same p q → length q ≤ 32 → Same out (byRoot z q)
 unfolding byRootAt
 byRoot-same z p q out F h l =
-    filled-same (byRootAt z p) out (byRoot z q) F (λ j. ap₂ (λ (u v : ℕ). u ⊕ z · v) (shift-same 1 p q h j) (h j) ∙ sym (at-byRoot z q j)) (omega (arith, length-byRoot z q))
+    filled-same (byRootAt z p) out (byRoot z q) F (λ j k. ap₂ (λ (u v : ℕ). u ⊕ z · v) (shift-same 1 p q h j) (h j) ∙ sym (at-byRoot z q j)) (omega (arith, length-byRoot z q))
 
 -- ---- the loop that pairs
 
@@ -144,7 +151,7 @@ dot-from S T i j (c ∷ p) h =
     ap₂ (λ (x y : ℕ). c · x ⊕ y) (ap T (sym (add-zero j)) ∙ h 0 ∙ ap S (add-zero i))
     (dot-from S T (suc i) (suc j) p (λ k. ap T (suc-add j k ∙ sym (add-suc j k)) ∙ h (suc k) ∙ ap S (add-suc i k ∙ sym (suc-add i k))))
 
-pub pair-later : (p s : List ℕ) (i : ℕ) → dot (terms (take (length s - i) (drop i s))) 0 p ≡ dot (terms s) i p
+pair-later : (p s : List ℕ) (i : ℕ) → dot (terms (take (length s - i) (drop i s))) 0 p ≡ dot (terms s) i p
 unfolding terms
 pair-later p s i =
     ap (λ (l : List ℕ). dot (terms l) 0 p) (take-all (length s - i) (drop i s) (omega (arith, length-drop i s)))
@@ -154,57 +161,19 @@ pub window-is : (s p : List ℕ) (i t : ℕ) → t ≡ dot (terms (take (length 
 unfolding windowed
 window-is s p i t e = e ∙ pair-later p s i
 
--- ---- the loop that evaluates, from the top down
+-- ---- the loop that moves up, from the first coefficient that is not shifted in
 
-pub value-starts : (p : List ℕ) (z : ℕ) → 0 ≡ eval (drop (length p) p) z
-unfolding eval
-value-starts p z = ap (λ (l : List ℕ). eval l z) (sym (drop-of-length-le p {i = length p} (omega arith)))
+pub moved-starts : (p : List ℕ) (k : ℕ) → Filled (terms (shiftBy k p)) 33 (replicate 33 0) k
+unfolding terms
+moved-starts p k = record { size = refl; each = λ i l. zero-at 33 i ∙ sym (at-shift-low k p i l) }
 
-pub value-turn : (p : List ℕ) (z j value product : ℕ) → 0 < j → j ≤ length p → value ≡ eval (drop j p) z → product ≡ z · value
-    → bitXor (getD p (j - 1) 0) product ≡ eval (drop (j - 1) p) z
-unfolding eval
-value-turn p z j value product h l e q =
-    let k : suc (j - 1) ≡ j = omega arith in
-    sym (⊕-is (getD p (j - 1) 0) product)
-    ∙ ap (λ (x : ℕ). getD p (j - 1) 0 ⊕ x) (q ∙ ap (λ (x : ℕ). z · x) (e ∙ ap (λ (i : ℕ). eval (drop i p) z) (sym k)))
-    ∙ ap (λ (t : List ℕ). eval t z) (sym (drop-cons p (j - 1) 0 (omega arith)))
+pub moved-turn : (p : List ℕ) (k : ℕ) (out : List ℕ) (j v : ℕ) → Filled (terms (shiftBy k p)) 33 out j → j < 33 → k ≤ j → v ≡ getD p (j - k) 0 → Filled (terms (shiftBy k p)) 33 (set out j v) (j + 1)
+unfolding terms
+moved-turn p k out j v F h l e = filled-turn (terms (shiftBy k p)) 33 out j v F h (e ∙ at-shift-high k p j l)
 
--- ---- the loop that divides: the same, and every value is kept
+-- ---- the loop that multiplies by a root
 
-pub record Divided (p : List ℕ) (z : ℕ) (out : List ℕ) (j : ℕ) : Type 0 where
-  pub size : length out ≡ 33
-  pub each : (i : ℕ) → j ≤ i → getD out i 0 ≡ eval (drop (suc i) p) z
-
-pub divided-starts : (p : List ℕ) (z : ℕ) → Divided p z (replicate 33 0) (length p)
-unfolding eval
-divided-starts p z =
-    record { size = refl; each = λ i h. zero-at 33 i ∙ ap (λ (l : List ℕ). eval l z) (sym (drop-of-length-le p {i = suc i} (omega arith))) }
-
-pub divided-turn : (p : List ℕ) (z : ℕ) (out : List ℕ) (j value : ℕ) → Divided p z out j → 0 < j → j ≤ 33 → value ≡ eval (drop j p) z → Divided p z (set out (j - 1) value) (j - 1)
-divided-turn p z out j value D h l e =
-    record {
-      size = length-set out (j - 1) value ∙ D .size;
-      each = λ i a. elim (ℕ-discrete i (j - 1)) [
-        | yes q ↦ ap (λ (k : ℕ). getD (set out (j - 1) value) k 0) q ∙ getD-set-same out (j - 1) value 0 (omega (arith, D .size))
-            ∙ e ∙ ap (λ (k : ℕ). eval (drop k p) z) (up i q)
-        | no n ↦ getD-set-other out (j - 1) i value 0 n ∙ D .each i (omega arith)
-      ];
-    }
-  where
-    up : (i : ℕ) → i ≡ j - 1 → j ≡ suc i
-    up i q = omega arith
-
-pub divided-ends : (p : List ℕ) (z : ℕ) (out : List ℕ) → Divided p z out 0 → Same out (quot p z)
-divided-ends p z out D i = D .each i (omega arith) ∙ sym (at-quot p z i)
-
--- ---- the loops that blend, and multiply by a root
-
-pub blended-turn : (b d : ℕ) (p q out : List ℕ) (j x y : ℕ) → Filled (blendedAt b d p q) 33 out j → j < 33 → x ≡ b · getD p j 0 → y ≡ d · getD q j 0
-    → Filled (blendedAt b d p q) 33 (set out j (bitXor x y)) (j + 1)
-unfolding blendedAt
-blended-turn b d p q out j x y F h e f = sum-turn (blendedAt b d p q) 33 out j x y F h (ap₂ (λ (u v : ℕ). u ⊕ v) e f)
-
-pub byRoot-turn : (z : ℕ) (p out : List ℕ) (j low product : ℕ) → Filled (byRootAt z p) 33 out j → j < 33 → low ≡ getD (shiftBy 1 p) j 0 → product ≡ z · getD p j 0
-    → Filled (byRootAt z p) 33 (set out j (bitXor low product)) (j + 1)
-unfolding byRootAt
-byRoot-turn z p out j low product F h e f = sum-turn (byRootAt z p) 33 out j low product F h (ap₂ (λ (u v : ℕ). u ⊕ v) e f)
+pub byRoot-turn : (z : ℕ) (p moved out : List ℕ) (j product : ℕ) → Filled (byRootAt z p) 33 out j → j < 33 → Filled (terms (shiftBy 1 p)) 33 moved 33 → product ≡ z · getD p j 0
+    → Filled (byRootAt z p) 33 (set out j (bitXor (getD moved j 0) product)) (j + 1)
+unfolding byRootAt terms
+byRoot-turn z p moved out j product F h M f = sum-turn (byRootAt z p) 33 out j (getD moved j 0) product F h (ap₂ (λ (u v : ℕ). u ⊕ v) (M .each j h) f)

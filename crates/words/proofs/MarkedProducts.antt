@@ -1,81 +1,109 @@
--- Marked places: counted, as factors of a polynomial in an array of 33, and as they change the syndromes that the register sees.
+-- Marked places: as factors of a polynomial in an array of 33, and as they change the syndromes that the register sees.
 use mathlib.Core.Path.{_≡_, refl, sym, ap, _∙_, subst}
 use mathlib.Core.Logic.{_≢_}
 use mathlib.Core.List.{List, [], _∷_}
 use Prim.Native.Nat.{ℕ, zero, suc, _+_, _-_, _≤_, _<_}
-use native.Mathlib.Nat.{zero-add}
-use native.Mathlib.Numerals.{add-one}
 use native.Mathlib.Omega.{arith}
 use lib.ListN.{length, getD, take, drop, length-drop, drop-of-length-le}
 use lib.Seq.{drop-cons, getD-take, length-take-le}
+use Rattle.field.specs.Field.{_·_}
+use Rattle.field.proofs.Sum.{⊕-zero}
+use Rattle.field.proofs.Product.{one-·}
 use Rattle.codewords.specs.Polynomials.{byRoot, dot}
 use Rattle.codewords.specs.Locators.{X, weight, timesMarks, erasure}
 use Rattle.codewords.specs.Errors.{RegisterState, run}
-use Rattle.codewords.proofs.ErrorPatterns.{oneIf, weight-cons}
 use Rattle.codewords.proofs.ErrorsFound.{run-invariant, run-ext}
 use Rattle.codewords.proofs.MarkedPlaces.{length-timesMarks, length-erasure}
-use Rattle.words.specs.Working.{Filled, Same, terms, byRootAt, windowed, HoldsRegister, HoldsProduct, HoldsChanged}
+use Rattle.words.specs.Working.{Filled, Same, terms, byRootAt, windowed, HoldsRegister, HoldsPolynomial, HoldsProduct, HoldsChanged}
 use Rattle.words.proofs.Coefficients.{dot-same, take-same, byRoot-same}
-
--- ---- marks are counted
-
-pub count-starts : (d : List ℕ) → 0 + weight (drop 0 d) ≡ weight d
-count-starts d = zero-add (weight d)
-
-pub count-turn : (d : List ℕ) (j n t : ℕ) → j < length d → n + weight (drop j d) ≡ t → n + oneIf (getD d j 0) + weight (drop (j + 1) d) ≡ t
-count-turn d j n t h e =
-    let k : weight (drop j d) ≡ oneIf (getD d j 0) + weight (drop (j + 1) d) =
-    ap weight (drop-cons d j 0 h) ∙ weight-cons (getD d j 0) (drop (suc j) d) ∙ ap (λ (i : ℕ). oneIf (getD d j 0) + weight (drop i d)) (sym (add-one j)) in
-    omega arith
-
-pub count-ends : (d : List ℕ) (j n t : ℕ) → length d ≤ j → n + weight (drop j d) ≡ t → n ≡ t
-unfolding weight
-count-ends d j n t h e = omega (arith, ap weight (drop-of-length-le d {i = j} h))
+use Rattle.words.proofs.RegisterTurns.{polynomial-is}
 
 -- ---- a factor for each marked place
 
-pub product-starts : (start marks : List ℕ) → length start ≡ 33 → HoldsProduct start (drop (length marks) marks) start
+pub product-starts : (start marks : List ℕ) → length start ≡ 33 → HoldsProduct start (drop (length marks - 0) marks) start
 unfolding timesMarks
 product-starts start marks l =
-    subst (λ (t : List ℕ). HoldsProduct start t start) (sym (drop-of-length-le marks {i = length marks} (omega arith))) (record { size = l; same = λ q h k. h })
+    subst (λ (t : List ℕ). HoldsProduct start t start) (sym (drop-of-length-le marks {i = length marks - 0} (omega arith))) (record { size = l; same = λ q h k. h })
 
--- at j, with the mark at j - 1
-module _ (start marks : List ℕ) (j : ℕ) (out : List ℕ) (h : 0 < j) (l : j ≤ length marks) (P : HoldsProduct start (drop j marks) out) where
-  ahead : drop (j - 1) marks ≡ getD marks (j - 1) 0 ∷ drop j marks
-  ahead = drop-cons marks (j - 1) 0 (omega arith) ∙ ap (λ (k : ℕ). getD marks (j - 1) 0 ∷ drop k marks) (up j h)
+no-factor : (marks q : List ℕ) → weight marks ≡ 0 → timesMarks marks q ≡ q
+unfolding timesMarks weight
+no-factor [] q e = refl
+no-factor (zero ∷ marks) q e = no-factor marks q e
+no-factor (suc x ∷ marks) q e = absurd (omega arith)
+
+pub product-unmarked : (start marks : List ℕ) → length start ≡ 33 → weight marks ≡ 0 → HoldsProduct start marks start
+product-unmarked start marks l e = record { size = l; same = λ q h k j. h j ∙ ap (λ (p : List ℕ). getD p j 0) (sym (no-factor marks q e)) }
+
+-- behind a mark stand as many as its locator's power
+module _ (start marks : List ℕ) (power : ℕ) (out : List ℕ) (h : power < length marks) (P : HoldsProduct start (drop (length marks - power) marks) out) where
+  behind : List ℕ
+  behind = drop (length marks - power) marks
+
+  behind-length : length behind ≡ power
+  unfolding behind
+  behind-length = omega (arith, length-drop (length marks - power) marks)
+
+  ahead : drop (length marks - (power + 1)) marks ≡ getD marks (length marks - 1 - power) 0 ∷ behind
+  unfolding behind
+  ahead = ap (λ (k : ℕ). drop k marks) here ∙ drop-cons marks (length marks - 1 - power) 0 (omega arith) ∙ ap (λ (k : ℕ). getD marks (length marks - 1 - power) 0 ∷ drop k marks) next
     where
-      up : (j : ℕ) → 0 < j → suc (j - 1) ≡ j
-      up j h = omega arith
+      here : length marks - (power + 1) ≡ length marks - 1 - power
+      here = omega arith
 
-  unmarked : (c : ℕ) → c ≡ 0 → HoldsProduct start (c ∷ drop j marks) out
-  unfolding timesMarks weight
+      next : suc (length marks - 1 - power) ≡ length marks - power
+      next = omega arith
+
+  unmarked : (c : ℕ) → c ≡ 0 → HoldsProduct start (c ∷ behind) out
+  unfolding timesMarks weight behind
   unmarked zero e = record { size = P .size; same = λ q s k. P .same q s k }
   unmarked (suc c) e = absurd (omega arith)
 
-  marked : (c z : ℕ) (r : List ℕ) → c ≢ 0 → z ≡ X (length (drop j marks)) → Filled (byRootAt z out) 33 r 33 → HoldsProduct start (c ∷ drop j marks) r
-  unfolding timesMarks weight
+  marked : (c z : ℕ) (r : List ℕ) → c ≢ 0 → z ≡ X power → Filled (byRootAt z out) 33 r 33 → HoldsProduct start (c ∷ behind) r
+  unfolding timesMarks weight behind
   marked zero z r n e F = absurd (n refl)
   marked (suc c) z r n e F =
       record {
         size = F .size;
-        same = λ q s k. subst (λ (x : ℕ). Same r (byRoot x (timesMarks (drop j marks) q))) e
-            (byRoot-same z out (timesMarks (drop j marks) q) r F (P .same q s (omega arith)) (omega (arith, length-timesMarks q (drop j marks))));
+        same = λ q s k. subst (λ (x : ℕ). Same r (byRoot x (timesMarks behind q))) (e ∙ ap X (sym behind-length))
+            (byRoot-same z out (timesMarks behind q) r F (P .same q s (omega arith)) (omega (arith, length-timesMarks q behind)));
       }
 
-  pub product-plain : getD marks (j - 1) 0 ≡ 0 → HoldsProduct start (drop (j - 1) marks) out
-  product-plain e = subst (λ (t : List ℕ). HoldsProduct start t out) (sym ahead) (unmarked (getD marks (j - 1) 0) e)
+  pub product-plain : getD marks (length marks - 1 - power) 0 ≡ 0 → HoldsProduct start (drop (length marks - (power + 1)) marks) out
+  product-plain e = subst (λ (t : List ℕ). HoldsProduct start t out) (sym ahead) (unmarked (getD marks (length marks - 1 - power) 0) e)
 
-  pub product-marked : (z : ℕ) (r : List ℕ) → getD marks (j - 1) 0 ≢ 0 → z ≡ X (length marks - j) → Filled (byRootAt z out) 33 r 33 → HoldsProduct start (drop (j - 1) marks) r
-  product-marked z r n e F =
-      subst (λ (t : List ℕ). HoldsProduct start t r) (sym ahead)
-      (marked (getD marks (j - 1) 0) z r n (e ∙ ap X (sym (length-drop j marks))) F)
+  pub product-marked : (z : ℕ) (r : List ℕ) → getD marks (length marks - 1 - power) 0 ≢ 0 → z ≡ X power → Filled (byRootAt z out) 33 r 33 → HoldsProduct start (drop (length marks - (power + 1)) marks) r
+  product-marked z r n e F = subst (λ (t : List ℕ). HoldsProduct start t r) (sym ahead) (marked (getD marks (length marks - 1 - power) 0) z r n e F)
 
--- ---- the register of the changed syndromes
+-- ---- the register of the changed syndromes; with no mark they are not changed
+
+abbrev changedRun : List ℕ → List ℕ → RegisterState
+changedRun s d = run (λ i. dot (terms s) i (erasure d)) (length s - weight d)
+
+holds-run : (s d : List ℕ) (S : ℕ → ℕ) (n : ℕ) → run S n ≡ changedRun s d → weight d ≤ length s → (len : ℕ) (taps sigma : List ℕ)
+    → HoldsRegister S n len taps → HoldsPolynomial taps len sigma → HoldsChanged s d len sigma
+holds-run s d S n e fits len taps sigma H P =
+    record {
+      len-is = H .len-is ∙ ap (λ (x : RegisterState). x .len) e;
+      sigma-is = λ small j. polynomial-is S n len taps sigma H P small j ∙ ap (λ (x : RegisterState). getD (x .sig) j 0) e;
+      sigma-size = P .size;
+      few = omega (arith, H .len-is, ap (λ (x : RegisterState). x .len) e, run-invariant (λ i. dot (terms s) i (erasure d)) (length s - weight d) .len);
+    }
+
+unmarked-is : (s d : List ℕ) → weight d ≡ 0 → ((i : ℕ) → getD s i 0 < 256) → (i : ℕ) → terms s i ≡ dot (terms s) i (erasure d)
+unfolding erasure dot terms
+unmarked-is s d clear o i =
+    sym (ap (dot (terms s) i) (no-factor d (1 ∷ []) clear) ∙ ⊕-zero (1 · getD s i 0) ∙ one-· (getD s i 0) (o i))
+
+pub holds-unmarked : (s d : List ℕ) → weight d ≡ 0 → ((i : ℕ) → getD s i 0 < 256) → (len : ℕ) (taps sigma : List ℕ)
+    → HoldsRegister (terms s) (length s) len taps → HoldsPolynomial taps len sigma → HoldsChanged s d len sigma
+holds-unmarked s d clear o =
+    holds-run s d (terms s) (length s)
+    (run-ext (terms s) (λ i. dot (terms s) i (erasure d)) (length s) (λ i h. unmarked-is s d clear o i) ∙ ap (run (λ i. dot (terms s) i (erasure d))) (omega arith))
+    (omega arith)
 
 module _ (s d : List ℕ) (f : ℕ) (f-is : f ≡ weight d) (fits : f ≤ length s) (short : length s ≤ 32)
     (one gamma : List ℕ) (One : Same one (1 ∷ [])) (Gamma : HoldsProduct one d gamma)
-    (t : List ℕ) (Changed : Filled (windowed s (take (f + 1) gamma)) 32 t (length s + 1 - length (take (f + 1) gamma)))
-    (len : ℕ) (sigma tau : List ℕ) (last : ℕ) (H : HoldsRegister (take (length s - f) t) (length (take (length s - f) t)) len sigma tau last) where
+    (t : List ℕ) (Changed : Filled (windowed s (take (f + 1) gamma)) 32 t (length s + 1 - length (take (f + 1) gamma))) where
   gamma-same : Same (take (f + 1) gamma) (erasure d)
   unfolding erasure
   gamma-same = take-same (f + 1) gamma (erasure d) (omega (arith, length-erasure d)) (Gamma .same (1 ∷ []) One (omega arith))
@@ -91,16 +119,10 @@ module _ (s d : List ℕ) (f : ℕ) (f-is : f ≡ weight d) (fits : f ≤ length
   t-is i h =
       getD-take (length s - f) t i 0 h ∙ Changed .each i (omega (arith, gamma-len)) ∙ dot-same (terms s) i (take (f + 1) gamma) (erasure d) gamma-same
 
-  run-is : run (terms (take (length s - f) t)) (length (take (length s - f) t)) ≡ run (λ i. dot (terms s) i (erasure d)) (length s - weight d)
-  run-is =
-      ap (run (terms (take (length s - f) t))) t-len ∙ run-ext (terms (take (length s - f) t)) (λ i. dot (terms s) i (erasure d)) (length s - f) t-is
-      ∙ ap (λ (n : ℕ). run (λ i. dot (terms s) i (erasure d)) (length s - n)) f-is
-
-  pub holds-changed : HoldsChanged s d len sigma
+  pub holds-changed : (len : ℕ) (taps sigma : List ℕ)
+      → HoldsRegister (terms (take (length s - f) t)) (length (take (length s - f) t)) len taps → HoldsPolynomial taps len sigma → HoldsChanged s d len sigma
   holds-changed =
-      record {
-        len-is = H .len-is ∙ ap (λ (x : RegisterState). x .len) run-is;
-        sigma-is = λ j. H .sigma-is j ∙ ap (λ (x : RegisterState). getD (x .sig) j 0) run-is;
-        sigma-size = H .sigma-size;
-        few = omega (arith, H .len-is, ap (λ (x : RegisterState). x .len) run-is, run-invariant (λ i. dot (terms s) i (erasure d)) (length s - weight d) .len);
-      }
+      holds-run s d (terms (take (length s - f) t)) (length (take (length s - f) t))
+      (ap (run (terms (take (length s - f) t))) t-len ∙ run-ext (terms (take (length s - f) t)) (λ i. dot (terms s) i (erasure d)) (length s - f) t-is
+      ∙ ap (λ (n : ℕ). run (λ i. dot (terms s) i (erasure d)) (length s - n)) f-is)
+      (omega arith)

@@ -11,7 +11,7 @@ use Rattle.field.specs.Line.{toLine, toConventional}
 use Rattle.refusals.proofs.Legal.{strength-bounds}
 use Rattle.codewords.specs.Words.{Octets, differing, withFill, Good}
 use Rattle.codewords.specs.Polynomials.{_⊞_}
-use Rattle.codewords.specs.Locators.{weight, Near, unmarkedPart, GoodWord}
+use Rattle.codewords.specs.Locators.{weight, Near, syndromes, unmarkedPart, GoodWord}
 use Rattle.codewords.proofs.Division.{⊞-octets}
 use Rattle.codewords.proofs.WordValues.{length-pair}
 use Rattle.codewords.proofs.NearCodewords.{⊞-back}
@@ -19,9 +19,9 @@ use Rattle.codewords.proofs.DoubtfulSymbols.{unmarkedPart-all, good-near, near-
 use Rattle.codewords.proofs.LineWords.{conversion-octets, line-octets, back-to-conventional, conversion-⊞, differing-front, differing-weight}
 use Rattle.codewords.proofs.Codewords.{good-filled, good-sent, sent-good}
 use Rattle.words.specs.Outcome.{LegalWord, fillOf, repaired, WordOutcome}
-use Rattle.words.specs.Working.{Filled, conventionalAt, Decided}
-use Rattle.words.proofs.Arrays.{zero-at, getD-map}
-use Rattle.words.proofs.Conversions.{conventional-ends, toLine-zero}
+use Rattle.words.specs.Working.{Filled, Decided, DecidedBy}
+use Rattle.words.proofs.Arrays.{zero-at, filled-take, getD-map}
+use Rattle.words.proofs.Conversions.{toLine-zero}
 
 -- ---- repairing is adding
 
@@ -37,7 +37,7 @@ take-map f (suc n) [] = refl
 take-map f (suc n) (c ∷ w) = ap {B = List ℕ} (λ (v : List ℕ). f c ∷ v) (take-map f n w)
 
 -- no mark among the first n of none
-take-clear : (n : ℕ) (w : List ℕ) → weight w ≡ 0 → weight (take n w) ≡ 0
+pub take-clear : (n : ℕ) (w : List ℕ) → weight w ≡ 0 → weight (take n w) ≡ 0
 unfolding weight
 take-clear zero w h = refl
 take-clear (suc n) [] h = refl
@@ -143,9 +143,6 @@ module _ (e s : ℕ) (sent : List ℕ) (L : LegalWord e s sent) (octets : Octets
         size : length (drop (length sent) (map toLine errors)) ≡ q
         size = length-drop (length sent) (map toLine errors) ∙ ap (λ (n : ℕ). n - length sent) (length-map errors toLine ∙ D .size)
 
-    without-marks-le : unmarked ≤ s
-    without-marks-le = omega (arith, count-is, good .close, ap (λ (w : List ℕ). weight (unmarkedPart d w)) (⊞-back r es es-size), ap weight (unmarkedPart-all d es clear (sym es-size ∙ same)))
-
     without-marks-found : (line : List ℕ) → line ≡ map toLine errors → WordOutcome e s sent true unmarked line
     without-marks-found line p =
         subst (WordOutcome e s sent true unmarked) (sym p)
@@ -160,7 +157,7 @@ module _ (e s : ℕ) (sent : List ℕ) (L : LegalWord e s sent) (octets : Octets
           whenNot = λ f. absurd (true≢false f);
         })
 
--- ---- what the code has: the symbols converted into an array, and an array of marks that are all clear
+-- ---- what the code has: the syndromes, and an array of marks that are all clear
 
 was-true : (flag : Bool) → not flag ≡ false → flag ≡ true
 was-true true h = refl
@@ -170,24 +167,24 @@ was-false : (flag : Bool) → not flag ≡ true → flag ≡ false
 was-false false h = refl
 was-false true h = sym h
 
-module _ (e s : ℕ) (sent : List ℕ) (L : LegalWord e s sent) (octets : Octets sent) (received : List ℕ) (F : Filled (conventionalAt sent) 255 received (length sent))
+module _ (e s : ℕ) (sent : List ℕ) (L : LegalWord e s sent) (octets : Octets sent) (sums : List ℕ) (Sy : Filled (syndromes (128 - e) (map toConventional sent)) 32 sums 32)
     (marks : List ℕ) (M : length marks ≡ 255) (clear : weight marks ≡ 0) (found : Bool) (errors : List ℕ) (unmarked : ℕ)
-    (D : Decided (128 - e) e s (take (length sent) marks) (take (length sent) received) found errors unmarked) where
+    (D : DecidedBy (128 - e) e s (take (length sent) marks) (take (e + e) sums) found errors unmarked) where
+  one-each : length (take (length sent) marks) ≡ length sent
+  one-each = length-take-le (length sent) marks (omega (arith, L .most))
+
+  strength : e ≤ 16
+  strength = strength-bounds e (L .strength) .1
+
   decision : (flag : Bool) → found ≡ flag → Decided (128 - e) e s (take (length sent) marks) (map toConventional sent) flag errors unmarked
   decision flag p =
       subst (λ (b : Bool). Decided (128 - e) e s (take (length sent) marks) (map toConventional sent) b errors unmarked) p
-      (subst (λ (w : List ℕ). Decided (128 - e) e s (take (length sent) marks) w found errors unmarked) (conventional-ends sent received (L .most) F) D)
-
-  one-each : length (take (length sent) marks) ≡ length sent
-  one-each = length-take-le (length sent) marks (omega (arith, L .most))
+      (D (map toConventional sent) (length-map sent toConventional ∙ sym one-each) (conversion-octets sent)
+      (filled-take (syndromes (128 - e) (map toConventional sent)) 32 32 (e + e) sums Sy (omega (arith, strength)) (omega (arith, strength))))
 
   pub none-good : not found ≡ true → (c : List ℕ) → Good e (fillOf sent) s (withFill (fillOf sent) sent) c → ⊥
   none-good p =
       without-marks-none e s sent L octets (take (length sent) marks) one-each (take-clear (length sent) marks clear) (decision false (was-false found p) .none refl)
-
-  pub count-le : not found ≡ false → unmarked ≤ s
-  count-le p =
-      without-marks-le e s sent L octets (take (length sent) marks) one-each (take-clear (length sent) marks clear) errors unmarked (decision true (was-true found p))
 
   pub found-good : not found ≡ false → (line : List ℕ) → line ≡ map toLine errors → WordOutcome e s sent true unmarked line
   found-good p =

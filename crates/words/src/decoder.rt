@@ -3,15 +3,13 @@ ghost use mathlib.Core.Path.{_≡_};
 ghost use mathlib.Core.Bool.{true, false};
 ghost use Prim.Native.Nat.{ℕ, _+_, _≤_, _<_};
 ghost use lib.ListN.{getD, length};
-ghost use Rattle.codewords.specs.Locators.{weight, syndromes};
-ghost use Rattle.words.specs.Working.{Filled, Decided};
-use crate::marks::count_marks;
+ghost use Rattle.codewords.specs.Locators.{weight};
+ghost use Rattle.words.specs.Working.{DecidedBy};
+use crate::errors::all_errors;
 use crate::marks::times_marks;
 use crate::marks::unmarked_locator;
-use crate::places::find_places;
+use crate::roots::find_roots;
 use crate::syndromes::all_zero;
-use crate::syndromes::beta_power;
-use crate::syndromes::syndromes_from;
 
 // Whether a codeword is good; what to add to the symbols to have it; how many unmarked symbols differ.
 pub(crate) struct Decision {
@@ -42,18 +40,10 @@ fn untouched(s: &[u8], f: usize) -> bool
     all_zero(s)
 }
 
-// Errors are looked for: with f marks, and the syndromes of r from the m-th power of beta on.
-fn with_errors_found(
-    r: &[u8],
-    marks: &[u8],
-    f: usize,
-    sums: &[u8],
-    m: usize,
-    e: usize,
-    s: usize,
-) -> Decision
-    requires { ⌜ (length (now r) ≤ 255) × (length (now r) ≡ length (now marks)) × (s ≤ e) × (e ≤ 16) × (f ≡ weight (now marks)) × (f ≤ s + s) × Filled (syndromes m (now r)) (e + e) (now sums) (e + e) ⌝ }
-    ensures { λ a. ⌜ Decided m e s (now (marks .entry)) (now (r .entry)) (a .found) (a .errors) (a .unmarked) ⌝ }
+// Errors are looked for: with f marks, and the syndromes from the m-th power of beta on.
+fn with_errors_found(marks: &[u8], f: usize, sums: &[u8], m: usize, e: usize, s: usize) -> Decision
+    requires { ⌜ (length (now marks) ≤ 255) × (m ≤ 128) × (s ≤ e) × (e ≤ 16) × (f ≡ weight (now marks)) × (f ≤ s + s) × (length (now sums) ≡ e + e) ⌝ }
+    ensures { λ a. ⌜ (a .unmarked ≤ s) × DecidedBy m e s (now (marks .entry)) (now (sums .entry)) (a .found) (a .errors) (a .unmarked) ⌝ }
 {
     let locator = unmarked_locator(sums, marks, f);
     let len = locator.len;
@@ -61,14 +51,14 @@ fn with_errors_found(
     if len + len + f > s + s {
         return without_errors(false);
     }
-    let lambda = times_marks(sigma, marks);
-    let size = len + f + 1;
-    let places = find_places(sums, &lambda[..size], r.len(), beta_power(m));
-    let roots = places.roots;
-    if roots != len + f {
+    let lambda = times_marks(sigma, marks, f);
+    let parts = (len + f + 3) / 3;
+    let size = 3 * parts;
+    let roots = find_roots(&lambda[..size], parts, marks.len());
+    if roots.count != len + f {
         return without_errors(false);
     }
-    let errors = places.errors;
+    let errors = all_errors(sums, &lambda[..size], marks.len(), m, roots);
     Decision {
         found: true,
         errors: errors,
@@ -76,19 +66,23 @@ fn with_errors_found(
     }
 }
 
-// A word of strength e whose code vanishes from the m-th power of beta on, with allowance s.
-pub(crate) fn decode_word(r: &[u8], marks: &[u8], m: usize, e: usize, s: usize) -> Decision
-    requires { ⌜ (length (now r) ≤ 255) × (length (now r) ≡ length (now marks)) × (s ≤ e) × (e ≤ 16) ⌝ }
-    ensures { λ a. ⌜ Decided m e s (now (marks .entry)) (now (r .entry)) (a .found) (a .errors) (a .unmarked) ⌝ }
+// A word with f marks, of strength e, whose code vanishes from the m-th power of beta on, with allowance s, by its syndromes there alone.
+pub(crate) fn decode_word(
+    marks: &[u8],
+    f: usize,
+    sums: &[u8],
+    m: usize,
+    e: usize,
+    s: usize,
+) -> Decision
+    requires { ⌜ (length (now marks) ≤ 255) × (f ≡ weight (now marks)) × (m ≤ 128) × (s ≤ e) × (e ≤ 16) × (length (now sums) ≡ e + e) ⌝ }
+    ensures { λ a. ⌜ (a .unmarked ≤ s) × DecidedBy m e s (now (marks .entry)) (now (sums .entry)) (a .found) (a .errors) (a .unmarked) ⌝ }
 {
-    let f = count_marks(marks);
     if f > s + s {
         return without_errors(false);
     }
-    let n = e + e;
-    let sums = syndromes_from(m, r);
-    if untouched(&sums[..n], f) {
+    if untouched(sums, f) {
         return without_errors(true);
     }
-    with_errors_found(r, marks, f, &sums[..n], m, e, s)
+    with_errors_found(marks, f, sums, m, e, s)
 }

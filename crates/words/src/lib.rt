@@ -1,10 +1,15 @@
 // The decoder of one word.
 mod decoder;
+mod errors;
+mod inverses;
 mod line;
+mod locators;
 mod marks;
-mod places;
 mod polynomials;
+mod powers;
 mod register;
+mod roots;
+mod rows;
 mod syndromes;
 
 ghost use mathlib.Core.Path.{_≡_};
@@ -14,8 +19,8 @@ ghost use Rattle.refusals.specs.Order.{Tells};
 ghost use Rattle.codewords.specs.Locators.{weight};
 ghost use Rattle.words.specs.Outcome.{LegalWord, WordOutcome};
 use decoder::decode_word;
-use line::conventional;
 use line::on_line;
+use syndromes::syndromes_of;
 
 // Whether a good codeword was found, how many symbols differ from it, and what to add to each symbol sent to have it.
 pub struct WordAnswer {
@@ -65,16 +70,17 @@ fn errors_of_legal(e: u32, s: u32, sent: &[u8]) -> WordAnswer
     ensures { λ a. ⌜ WordOutcome e s (now (sent .entry)) (a .found) (a .count) (a .errors) ⌝ }
 {
     let n = sent.len();
-    let received = conventional(sent);
-    let marks = no_marks();
     let strength = e as usize;
-    let allowance = s as usize;
+    let zeros = strength + strength;
+    let sums = syndromes_of(strength, sent);
+    let marks = no_marks();
     let decision = decode_word(
-        &received[..n],
         &marks[..n],
+        0,
+        &sums[..zeros],
         128 - strength,
         strength,
-        allowance,
+        s as usize,
     );
     let found = decision.found;
     if !found {

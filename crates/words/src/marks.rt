@@ -4,38 +4,28 @@ ghost use Prim.Native.Nat.{_+_, _-_, _≤_, _<_};
 ghost use lib.ListN.{length};
 ghost use Rattle.codewords.specs.Locators.{weight};
 ghost use Rattle.words.specs.Working.{Filled, windowed, HoldsProduct, HoldsChanged};
+use crate::locators::locators;
 use crate::polynomials::by_root;
 use crate::polynomials::pair;
+use crate::register::polynomial;
 use crate::register::shortest_register;
-use crate::syndromes::BETA;
 
-pub(crate) fn count_marks(marks: &[u8]) -> usize
-    ensures { λ r. ⌜ r ≡ weight (now (marks .entry)) ⌝ }
-{
-    let mut count: usize = 0;
-    for j in 0..marks.len() {
-        if marks[j] != 0 {
-            count += 1;
-        }
-    }
-    count
-}
-
-// The polynomial times x + z for the locator z of each marked place.
-pub(crate) fn times_marks(start: [u8; 33], marks: &[u8]) -> [u8; 33]
-    requires { ⌜ length start ≡ 33 ⌝ }
+// The polynomial times x + z for the locator z of each of f marked places.
+pub(crate) fn times_marks(start: [u8; 33], marks: &[u8], f: usize) -> [u8; 33]
+    requires { ⌜ (length start ≡ 33) × (length (now marks) ≤ 255) × (f ≡ weight (now marks)) ⌝ }
     ensures { λ r. ⌜ HoldsProduct start (now (marks .entry)) r ⌝ }
 {
+    if f == 0 {
+        return start;
+    }
+    let list = locators();
+    let n = marks.len();
     let mut out = start;
-    let mut locator: u8 = 1;
-    let mut j = marks.len();
-    while j > 0 {
-        j -= 1;
-        if marks[j] != 0 {
-            let more = by_root(&out, locator);
+    for power in 0..n {
+        if marks[n - 1 - power] != 0 {
+            let more = by_root(&out, list[power]);
             out = more;
         }
-        locator = field::mul(BETA, locator);
     }
     out
 }
@@ -61,18 +51,29 @@ pub(crate) struct Locator {
 
 // The shortest register of the syndromes changed by f marked places: the number and the places of the unmarked errors.
 pub(crate) fn unmarked_locator(s: &[u8], marks: &[u8], f: usize) -> Locator
-    requires { ⌜ (length (now s) ≤ 32) × (f ≡ weight (now marks)) × (f ≤ length (now s)) ⌝ }
+    requires { ⌜ (length (now s) ≤ 32) × (length (now marks) ≤ 255) × (f ≡ weight (now marks)) × (f ≤ length (now s)) ⌝ }
     ensures { λ p. ⌜ HoldsChanged (now (s .entry)) (now (marks .entry)) (p .len) (p .sigma) ⌝ }
 {
+    if f == 0 {
+        let g = shortest_register(s);
+        let len = g.len;
+        let taps = g.taps;
+        let sigma = polynomial(&taps, len);
+        return Locator {
+            len: len,
+            sigma: sigma,
+        };
+    }
     let mut one: [u8; 33] = [0; 33];
     one[0] = 1;
-    let gamma = times_marks(one, marks);
+    let gamma = times_marks(one, marks, f);
     let size = f + 1;
     let left = s.len() - f;
     let t = changed(s, &gamma[..size]);
     let g = shortest_register(&t[..left]);
     let len = g.len;
-    let sigma = g.sigma;
+    let taps = g.taps;
+    let sigma = polynomial(&taps, len);
     Locator {
         len: len,
         sigma: sigma,

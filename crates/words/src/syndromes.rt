@@ -1,60 +1,69 @@
 // The syndromes: the values of a word at 32 powers of beta, all in one pass over its symbols.
 ghost use mathlib.Core.Path.{_≡_};
 ghost use mathlib.Core.Bool.{true};
-ghost use Prim.Native.Nat.{ℕ, _<_};
-ghost use lib.ListN.{getD, length};
-ghost use Rattle.codewords.specs.Locators.{X, syndromes};
-ghost use Rattle.words.specs.Working.{Filled, locatorsFrom, hornerAt};
+ghost use mathlib.Core.List.{map};
+ghost use Prim.Native.Nat.{ℕ, _-_, _≤_, _<_};
+ghost use lib.ListN.{getD, length, take, replicate};
+ghost use Rattle.field.specs.Line.{toConventional};
+ghost use Rattle.codewords.specs.Locators.{syndromes};
+ghost use Rattle.words.specs.Working.{Filled, TwoRows};
+use crate::line::conventional;
+use crate::locators::locators;
+use crate::rows::row_from;
+use crate::rows::with_symbol;
 
-// Alpha to the eleventh.
-pub(crate) const BETA: u8 = 0xAD;
-
-pub(crate) fn beta_power(n: usize) -> u8
-    ensures { λ r. ⌜ r ≡ X n ⌝ }
-{
-    let mut power: u8 = 1;
-    for _ in 0..n {
-        power = field::mul(BETA, power);
-    }
-    power
-}
-
-// The points from the m-th power of beta on.
-fn points_from(m: usize) -> [u8; 32]
-    ensures { λ r. ⌜ Filled (locatorsFrom m) 32 r 32 ⌝ }
+// Two rows, one behind the other.
+fn both(low: &[u8; 16], high: &[u8; 16]) -> [u8; 32]
+    ensures { λ r. ⌜ TwoRows (now (low .entry)) (now (high .entry)) r 16 ⌝ }
 {
     let mut out: [u8; 32] = [0; 32];
-    let mut point = beta_power(m);
-    for i in 0..32 {
-        out[i] = point;
-        point = field::mul(BETA, point);
+    for i in 0usize..16 {
+        out[i] = low[i];
+        out[16 + i] = high[i];
     }
     out
 }
 
-// One symbol more, at every point: a fresh row, which the compiler can keep in vector registers.
-fn with_symbol(sums: &[u8; 32], points: &[u8; 32], symbol: u8) -> [u8; 32]
-    ensures { λ r. ⌜ Filled (hornerAt (now (sums .entry)) (now (points .entry)) symbol) 32 r 32 ⌝ }
-{
-    let mut out: [u8; 32] = [0; 32];
-    for i in 0..32 {
-        let product = field::mul(sums[i], points[i]);
-        out[i] = product ^ symbol;
-    }
-    out
-}
-
-// Always 32 of them, the number at the greater strength: a row of fixed length is faster than a shorter one.
-pub(crate) fn syndromes_from(m: usize, word: &[u8]) -> [u8; 32]
+// Always 32 of them, the number at the greater strength, in two rows.
+fn syndromes_from(m: usize, word: &[u8]) -> [u8; 32]
+    requires { ⌜ m ≤ 128 ⌝ }
     ensures { λ r. ⌜ Filled (syndromes m (now (word .entry))) 32 r 32 ⌝ }
 {
-    let points = points_from(m);
-    let mut sums: [u8; 32] = [0; 32];
+    let list = locators();
+    let low = row_from(&list, m);
+    let high = row_from(&list, m + 16);
+    let mut sums: [u8; 16] = [0; 16];
+    let mut higher: [u8; 16] = [0; 16];
     for j in 0..word.len() {
-        let next = with_symbol(&sums, &points, word[j]);
+        let next = with_symbol(&sums, &low, word[j]);
+        let next_higher = with_symbol(&higher, &high, word[j]);
         sums = next;
+        higher = next_higher;
     }
-    sums
+    both(&sums, &higher)
+}
+
+fn zeros_before(sent: &[u8]) -> usize
+    ensures { λ r. ⌜ (r ≤ length (now (sent .entry))) × (take r (now (sent .entry)) ≡ replicate r 0) ⌝ }
+{
+    let n = sent.len();
+    for i in 0..n {
+        if sent[i] != 0 {
+            return i;
+        }
+    }
+    n
+}
+
+// Those of a word at the zeros of its code. Zeros in front add nothing to a value: a word of which only the checks are left is quickly done.
+pub(crate) fn syndromes_of(e: usize, sent: &[u8]) -> [u8; 32]
+    requires { ⌜ (e ≤ 16) × (length (now sent) ≤ 255) ⌝ }
+    ensures { λ r. ⌜ Filled (syndromes (128 - e) (map toConventional (now (sent .entry)))) 32 r 32 ⌝ }
+{
+    let first = zeros_before(sent);
+    let n = sent.len() - first;
+    let symbols = conventional(&sent[first..]);
+    syndromes_from(128 - e, &symbols[..n])
 }
 
 pub(crate) fn all_zero(s: &[u8]) -> bool

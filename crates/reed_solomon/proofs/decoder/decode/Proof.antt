@@ -20,7 +20,7 @@ returns c =
 
 -- delivered as it stands
 returns-2 : tie.Need-returns-2
-returns-2 c = delivers-coded _ _ _ _ _ _ (search passed) (search octets-known) _ (c .before .before .before .before .before .before .before .before .enter .ensures) (c .before .before .before .before .before .before .before .has-checks .ensures (c .before .before .before .before .before .before .if1 .taken)) _ _ _ _ (c .as-received .ensures) (c .before .before .before .copy-front .ensures)
+returns-2 c = delivers-coded _ _ _ _ _ _ (search passed) (search octets-known) _ (c .before .before .before .before .before .before .before .before .front-rows .ensures) (c .before .before .before .before .before .before .before .has-checks .ensures (c .before .before .before .before .before .before .if1 .taken)) _ _ _ _ (c .as-received .ensures) (c .before .before .before .copy-front .ensures)
 
 -- refused for the lowest word that is lost
 returns-3 : tie.Need-returns-3
@@ -46,17 +46,14 @@ enum-told c = search needs
 legal : (c : tie.After-enum-told) → let start = c .before .before .before .before .before in FirstOf (decodeParameters (start .args .e) (start .args .depth) (start .args .fill) (start .args .s) (length (start .args .block .now)) (length (start .args .frame .now))) 0
 legal c = search passed
 
-slice-aggregate-enter : tie.Need-slice-aggregate-enter
-slice-aggregate-enter c = sym (length-take-le _ _ (coded-room _ _ _ _ _ _ (legal (c .before .before)) .2))
-
-enter-requires : tie.Need-enter-requires
-enter-requires c κs = let L = enter-legal _ _ _ _ _ _ (legal (c .before .before)) in (L .0, L .1, L .2, refl)
+front-rows-requires : tie.Need-front-rows-requires
+front-rows-requires c κs = let L = enter-legal _ _ _ _ _ _ (legal c) in (L .0, L .1, L .2, coded-room _ _ _ _ _ _ (legal c) .2)
 
 has-checks-requires : tie.Need-has-checks-requires
-has-checks-requires c κs = coded-room _ _ _ _ _ _ (legal (c .before .before .before))
+has-checks-requires c κs = coded-room _ _ _ _ _ _ (legal (c .before))
 
 slice-aggregate-copy-front : tie.Need-slice-aggregate-copy-front
-slice-aggregate-copy-front c = sym (length-take-le _ _ (coded-room _ _ _ _ _ _ (legal (c .before .before .before .before .before .before)) .2))
+slice-aggregate-copy-front c = sym (length-take-le _ _ (coded-room _ _ _ _ _ _ (legal (c .before .before .before .before)) .2))
 
 copy-front-requires : tie.Need-copy-front-requires
 copy-front-requires c κs = search needs
@@ -71,13 +68,15 @@ slice-aggregate-repair-words : tie.Need-slice-aggregate-repair-words
 slice-aggregate-repair-words c = search needs
 
 repair-words-requires : tie.Need-repair-words-requires
-repair-words-requires c κs = (
-  fitting _ _ _ _ _ _ (length (c .before .before .before .before .before .before .before .before .before .before .before .args .frame .now)) refl (legal (c .before .before .before .before .before .before)),
-  checks-of-words _ _ _ _ _ (c .before .before .before .before .before .before .before .before .before .before .before .args .frame .now) _ (legal (c .before .before .before .before .before .before)) (search octets-known) (c .before .before .before .enter .ensures),
-)
+repair-words-requires c κs =
+    let passing = legal (c .before .before .before .before) in
+    let start = c .before .before .before .before .before .before .before .before .before in (
+      fitting _ _ _ _ _ _ (length (start .args .frame .now)) refl passing,
+      checks-of-words _ _ _ _ _ (start .args .frame .now) _ passing (search octets-known) (c .before .before .before .front-rows .ensures),
+    )
 
-cast-t34 : tie.Need-cast-t34
-cast-t34 c = search needs
+cast-t28 : tie.Need-cast-t28
+cast-t28 c = search needs
 
 refused-requires-2 : tie.Need-refused-requires-2
 refused-requires-2 c κs = search needs
@@ -103,8 +102,7 @@ decode-spec =
     refused-requires
     returns
     enum-told
-    slice-aggregate-enter
-    enter-requires
+    front-rows-requires
     has-checks-requires
     slice-aggregate-copy-front
     copy-front-requires
@@ -113,7 +111,7 @@ decode-spec =
     returns-2
     slice-aggregate-repair-words
     repair-words-requires
-    cast-t34
+    cast-t28
     refused-requires-2
     returns-3
     array-share-prefix-repaired

@@ -77,8 +77,7 @@ loop-again : tie.Need-loop-again Inv-loop μ-loop
 loop-again c =
     let start = c .before .before .before .before .before .before .before .before .before .before in
     let at = c .before .before .before .before .before .before .before .loop in
-    let word = c .before .before .before .repair-word in
-    (
+    let word = c .before .before .before .repair-word in (
       omega arith,
       word .ensures .size ∙ at .inv .1,
       sofar-turn (start .args .e) (start .args .depth) (start .args .fill) (start .args .s) (start .args .block .now) (at .frame) (at .counts) (at .total) (at .w) (word .result .found) (word .result .count) _ (omega arith) (at .inv .2) (word .ensures) (at .inv .4 .deep) (not-false _ (c .if1 .left)),

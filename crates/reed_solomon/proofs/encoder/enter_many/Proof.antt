@@ -53,8 +53,7 @@ loop-less c = search needs
 
 loop-again : tie.Need-loop-again Inv-loop μ-loop
 loop-again c =
-    let before = c .before .before .before .before .before .before .loop in
-    (
+    let before = c .before .before .before .before .before .before .loop in (
       omega arith,
       ⊎-elim (λ w. omega (arith, w .1)) (λ w. omega (arith, w .1, w .0 .left)) (c .if1 .came),
       length-set (before .rows) (before .word) _ ∙ before .inv .2,

@@ -16,7 +16,7 @@ returns : tie.Need-returns
 returns c =
     let octet : Fits w8 (getD (c .before .args .row) 0 0) = search needs in
     λ bits S. stepped-entered bits (c .before .args .row) _ _ (search needs) (⊕-octet (c .before .args .symbol) _ (search needs) (octet .fits))
-        (stepped-alike bits _ (c .before .args .row) (c .before .args .symbol) _ S (search needs) (octet .fits) (c .stepped-by-table .ensures))
+    (stepped-alike bits _ (c .before .args .row) (c .before .args .symbol) _ S (search needs) (octet .fits) (c .stepped-by-table .ensures))
 
 pub entered-by-table-spec : {M : Type 1} → statement M
 entered-by-table-spec = tie.close (tie.spec stepped-by-table-requires returns)

@@ -1,13 +1,16 @@
 -- `with_errors_found`: the register is too long, the roots are too few, or what the roots give is the one good codeword.
 use mathlib.Core.Path.{sym}
+use Prim.Native.Nat.{ℕ, _+_, _*_, _/_}
 use native.Mathlib.Omega.{arith}
-use lib.ListN.{length-take}
 use lib.Seq.{length-take-le}
 use borrow.Author.Needs.{needs}
-use Rattle.words.proofs.Arrays.{octets-of}
-use Rattle.words.proofs.Decisions.{refused, too-far, too-few, decided}
+use Rattle.words.proofs.Decisions.{too-far-by, too-few-by, decided-by}
 use Rattle.words.proofs.decoder.with_errors_found.Statement.{statement}
 use Rattle.words.proofs.decoder.with_errors_found.Tie as tie
+
+-- how many coefficients are looked at
+abbrev cut : ℕ → ℕ → ℕ
+cut len f = 3 * ((len + f + 3) / 3)
 
 unmarked-locator-requires : tie.Need-unmarked-locator-requires
 unmarked-locator-requires c κs = search needs
@@ -25,31 +28,32 @@ without-errors-requires : tie.Need-without-errors-requires
 without-errors-requires c κs = search needs
 
 returns : tie.Need-returns
-returns c =
-    refused _ _ _ _ _ _ _ _ (c .without-errors .ensures .0) (c .without-errors .ensures .2) (c .without-errors .ensures .3)
-    (too-far _ _ _ _ _ (omega arith) (omega arith) (octets-of (c .before .before .before .before .before .before .before .args .r .now) (λ i. omega (arith, c .before .before .before .before .before .before .shared-slice-known .given i))) (omega arith) (omega arith) _ (c .before .before .before .before .before .before .before .pre .6)
-    (omega arith) _ _ (c .before .before .before .unmarked-locator .ensures) (omega arith))
+returns c = (
+  omega (arith, c .without-errors .ensures .1),
+  too-far-by _ _ _ _ (omega arith) (omega arith) (omega arith) _ _ _ _ (c .without-errors .ensures .0) (c .without-errors .ensures .2) (c .without-errors .ensures .3) (omega arith) _ _
+      (c .before .before .before .unmarked-locator .ensures) (omega arith),
+)
 
 times-marks-requires : tie.Need-times-marks-requires
 times-marks-requires c κs = search needs
 
-add-size : tie.Need-add-size
-add-size c = search needs
+add-parts : tie.Need-add-parts
+add-parts c = search needs
 
-add-size-2 : tie.Need-add-size-2
-add-size-2 c = search needs
+add-parts-2 : tie.Need-add-parts-2
+add-parts-2 c = search needs
+
+mul-size : tie.Need-mul-size
+mul-size c = search needs
 
 array-share-prefix-lambda : tie.Need-array-share-prefix-lambda
 array-share-prefix-lambda c = search needs
 
-slice-aggregate-find-places : tie.Need-slice-aggregate-find-places
-slice-aggregate-find-places c = sym (length-take-le _ _ (omega (arith, c .before .times-marks .ensures .size)))
+slice-aggregate-find-roots : tie.Need-slice-aggregate-find-roots
+slice-aggregate-find-roots c = sym (length-take-le _ _ (omega (arith, c .before .times-marks .ensures .size)))
 
-beta-power-requires : tie.Need-beta-power-requires
-beta-power-requires c κs = search needs
-
-find-places-requires : tie.Need-find-places-requires
-find-places-requires c κs = (omega arith, simp length-take (omega (arith, c .before .before .times-marks .ensures .size)), simp length-take (omega (arith, c .before .before .before .before .before .unmarked-locator .ensures .few)), omega arith)
+find-roots-requires : tie.Need-find-roots-requires
+find-roots-requires c κs = (length-take-le _ _ (omega (arith, c .before .times-marks .ensures .size)), omega arith, omega arith)
 
 add-if2 : tie.Need-add-if2
 add-if2 c = search needs
@@ -58,15 +62,29 @@ without-errors-requires-2 : tie.Need-without-errors-requires-2
 without-errors-requires-2 c κs = search needs
 
 returns-2 : tie.Need-returns-2
-returns-2 c =
-    refused _ _ _ _ _ _ _ _ (c .without-errors2 .ensures .0) (c .without-errors2 .ensures .2) (c .without-errors2 .ensures .3)
-    (too-few _ _ _ _ _ (omega arith) (omega arith) (octets-of (c .before .before .before .before .before .before .before .before .before .before .before .before .args .r .now) (λ i. omega (arith, c .before .before .before .before .before .before .before .before .before .before .before .shared-slice-known .given i))) (omega arith) (omega arith) _ (c .before .before .before .before .before .before .before .before .before .before .before .before .pre .6)
-    (omega arith) _ _ (c .before .before .before .before .before .before .before .before .unmarked-locator .ensures) _ (c .before .before .before .before .before .times-marks .ensures) _ (c .before .before .before .before .before .before .before .before .before .before .before .before .pre .4) _ (c .before .before .before .beta-power .ensures) _ _ (c .before .before .find-places .ensures) (search needs))
+returns-2 c = (
+  omega (arith, c .without-errors2 .ensures .1),
+  too-few-by _ _ _ _ (omega arith) (omega arith) (omega arith) _ _ _ _ (c .without-errors2 .ensures .0) (c .without-errors2 .ensures .2) (c .without-errors2 .ensures .3) (omega arith) _ _
+      (c .before .before .before .before .before .before .before .before .unmarked-locator .ensures) (omega arith) _ (c .before .before .before .before .before .times-marks .ensures)
+      (cut (c .before .before .before .before .before .before .before .before .unmarked-locator .result .len) (c .before .before .before .before .before .before .before .before .before .before .before .args .f)) _ _ (c .before .before .before .find-roots .ensures) (omega arith) (search needs),
+)
+
+array-share-prefix-lambda-2 : tie.Need-array-share-prefix-lambda-2
+array-share-prefix-lambda-2 c = search needs
+
+slice-aggregate-all-errors : tie.Need-slice-aggregate-all-errors
+slice-aggregate-all-errors c = sym (length-take-le _ _ (omega (arith, c .before .before .before .before .before .times-marks .ensures .size)))
+
+all-errors-requires : tie.Need-all-errors-requires
+all-errors-requires c κs = search needs
 
 returns-3 : tie.Need-returns-3
-returns-3 c =
-    decided _ _ _ _ _ (omega arith) (omega arith) (octets-of (c .before .before .before .before .before .before .before .before .before .before .before .before .args .r .now) (λ i. omega (arith, c .before .before .before .before .before .before .before .before .before .before .before .shared-slice-known .given i))) (omega arith) (omega arith) _ (c .before .before .before .before .before .before .before .before .before .before .before .before .pre .6)
-    (omega arith) _ _ (c .before .before .before .before .before .before .before .before .unmarked-locator .ensures) _ (c .before .before .before .before .before .times-marks .ensures) _ (c .before .before .before .before .before .before .before .before .before .before .before .before .pre .4) _ (c .before .before .before .beta-power .ensures) _ _ (c .before .before .find-places .ensures) (omega arith) (search needs)
+returns-3 c = (
+  omega arith,
+  decided-by _ _ _ _ (omega arith) (omega arith) (omega arith) _ _ _ (c .before .before .before .before .before .before .before .before .before .unmarked-locator .ensures) (omega arith) _
+      (c .before .before .before .before .before .before .times-marks .ensures)
+      (cut (c .before .before .before .before .before .before .before .before .before .unmarked-locator .result .len) (c .before .before .before .before .before .before .before .before .before .before .before .before .args .f)) _ _ (c .before .before .before .before .find-roots .ensures) (omega arith) _ (c .all-errors .ensures) (search needs),
+)
 
 pub with-errors-found-spec : {M : Type 1} → statement M
 with-errors-found-spec =
@@ -79,13 +97,16 @@ with-errors-found-spec =
     without-errors-requires
     returns
     times-marks-requires
-    add-size
-    add-size-2
+    add-parts
+    add-parts-2
+    mul-size
     array-share-prefix-lambda
-    slice-aggregate-find-places
-    beta-power-requires
-    find-places-requires
+    slice-aggregate-find-roots
+    find-roots-requires
     add-if2
     without-errors-requires-2
     returns-2
+    array-share-prefix-lambda-2
+    slice-aggregate-all-errors
+    all-errors-requires
     returns-3)

@@ -1,13 +1,25 @@
--- `unmarked_locator` runs the register over the syndromes that the marked places changed.
+-- `unmarked_locator` runs the register over the syndromes as they are, or, with marks, as the marked places changed them.
 use mathlib.Core.Path.{sym}
 use native.Mathlib.Omega.{arith}
 use lib.ListN.{length-take}
 use lib.Seq.{length-take-le}
 use borrow.Author.Needs.{needs}
 use Rattle.words.proofs.Arrays.{one-first}
-use Rattle.words.proofs.MarkedProducts.{holds-changed}
+use Rattle.words.proofs.MarkedProducts.{holds-unmarked, holds-changed}
 use Rattle.words.proofs.marks.unmarked_locator.Statement.{statement}
 use Rattle.words.proofs.marks.unmarked_locator.Tie as tie
+
+shortest-register-requires : tie.Need-shortest-register-requires
+shortest-register-requires c κs = search needs
+
+polynomial-requires : tie.Need-polynomial-requires
+polynomial-requires c κs = search needs
+
+returns : tie.Need-returns
+returns c =
+    let known = c .before .before .before .before .before .before in
+    holds-unmarked (known .before .args .s .now) (known .before .args .marks .now) (omega arith) (λ i. omega (arith, known .shared-slice-known .given i)) _ _ _
+    (c .before .before .before .shortest-register .ensures) (c .polynomial .ensures)
 
 array-write-one : tie.Need-array-write-one
 array-write-one c = search needs
@@ -36,18 +48,26 @@ array-share-prefix-t c = search needs
 slice-aggregate-shortest-register : tie.Need-slice-aggregate-shortest-register
 slice-aggregate-shortest-register c = sym (length-take-le _ _ (omega (arith, c .before .changed .ensures .size)))
 
-shortest-register-requires : tie.Need-shortest-register-requires
-shortest-register-requires c κs = simp length-take (omega arith)
+shortest-register-requires-2 : tie.Need-shortest-register-requires-2
+shortest-register-requires-2 c κs = simp length-take (omega arith)
 
-returns : tie.Need-returns
-returns c =
-    holds-changed (c .before .before .before .before .before .before .before .before .args .s .now) (c .before .before .before .before .before .before .before .before .args .marks .now) _ (c .before .before .before .before .before .before .before .before .pre .1) (omega arith) (omega arith) _ _ (one-first 32) (c .before .before .before .before .before .times-marks .ensures) _ (c .before .before .before .changed .ensures) _ _ _ _
-    (c .before .shortest-register .ensures)
+polynomial-requires-2 : tie.Need-polynomial-requires-2
+polynomial-requires-2 c κs = search needs
+
+returns-2 : tie.Need-returns-2
+returns-2 c =
+    let changed = c .before .before .before .before .before in
+    let start = changed .before .before .before .before .before .before in
+    holds-changed (start .args .s .now) (start .args .marks .now) _ (start .pre .2) (omega arith) (omega arith) _ _ (one-first 32)
+    (changed .before .before .times-marks .ensures) _ (changed .changed .ensures) _ _ _ (c .before .before .before .shortest-register2 .ensures) (c .polynomial2 .ensures)
 
 pub unmarked-locator-spec : {M : Type 1} → statement M
 unmarked-locator-spec =
     tie.close
     (tie.spec
+    shortest-register-requires
+    polynomial-requires
+    returns
     array-write-one
     times-marks-requires
     add-size
@@ -57,5 +77,6 @@ unmarked-locator-spec =
     changed-requires
     array-share-prefix-t
     slice-aggregate-shortest-register
-    shortest-register-requires
-    returns)
+    shortest-register-requires-2
+    polynomial-requires-2
+    returns-2)

@@ -10,22 +10,25 @@ use Rattle.words.proofs.polynomials.by_root.Statement.{statement}
 use Rattle.words.proofs.polynomials.by_root.Tie as tie
 
 abbrev Inv-loop : tie.InvT-loop
-Inv-loop p z out₀ j₀ out j = (j ≤ 33) × Filled (byRootAt z p) 33 out j
+Inv-loop p z moved out₀ j₀ out j = (j ≤ 33) × Filled (byRootAt z p) 33 out j
 
 abbrev μ-loop : tie.MeasureT-loop
-μ-loop p z out₀ j₀ out j = 33 - j
+μ-loop p z moved out₀ j₀ out j = 33 - j
+
+moved-up-requires : tie.Need-moved-up-requires Inv-loop μ-loop
+moved-up-requires c κs = search needs
 
 loop-holds : tie.Need-loop-holds Inv-loop μ-loop
 loop-holds c = (omega arith, filled-starts _ 33 _ refl)
-
-coefficient-requires : tie.Need-coefficient-requires Inv-loop μ-loop
-coefficient-requires c κs = search needs
 
 element-copy-out-mul : tie.Need-element-copy-out-mul Inv-loop μ-loop
 element-copy-out-mul c = search needs
 
 mul-requires : tie.Need-mul-requires Inv-loop μ-loop
 mul-requires c κs = search needs
+
+array-read-low : tie.Need-array-read-low Inv-loop μ-loop
+array-read-low c = omega (arith, c .before .before .before .before .moved-up .ensures .size)
 
 array-write-out : tie.Need-array-write-out Inv-loop μ-loop
 array-write-out c = search needs
@@ -37,7 +40,7 @@ loop-less : tie.Need-loop-less Inv-loop μ-loop
 loop-less c = search needs
 
 loop-again : tie.Need-loop-again Inv-loop μ-loop
-loop-again c = (omega arith, byRoot-turn _ _ _ _ _ _ (c .before .before .before .before .loop .inv .1) (omega arith) (c .before .before .coefficient .ensures) (c .mul .ensures))
+loop-again c = (omega arith, byRoot-turn _ _ _ _ _ _ (c .before .before .before .loop .inv .1) (omega arith) (c .before .before .before .before .moved-up .ensures) (c .mul .ensures))
 
 returns : tie.Need-returns Inv-loop μ-loop
 returns c =
@@ -50,10 +53,11 @@ by-root-spec =
     (tie.spec
     Inv-loop
     μ-loop
+    moved-up-requires
     loop-holds
-    coefficient-requires
     element-copy-out-mul
     mul-requires
+    array-read-low
     array-write-out
     add-j
     loop-less
