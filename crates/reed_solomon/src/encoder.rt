@@ -65,25 +65,22 @@ fn enter_many(bits: [u8; 256], rows: &mut [[u8; 32]; 8], first: usize, symbols: 
     }
 }
 
-// To build the table takes as long as a hundred steps by bits.
-fn enter_by(bits: [u8; 256], rows: &mut [[u8; 32]; 8], first: usize, symbols: &[u8], depth: usize)
-    requires { ⌜ (first < depth) × (depth ≤ 8) × (length (now rows) ≡ 8) ⌝ }
-    ensures { λ _. ⌜ RowsBy bits depth first (now (rows .entry)) (now (symbols .entry)) (now (rows .exit)) ⌝ }
-{
-    if symbols.len() < 100 {
-        return enter_few(bits, rows, first, symbols, depth);
-    }
-    enter_many(bits, rows, first, symbols, depth)
-}
-
+// To build the table takes as long as a hundred steps by bits. The eight rows are handed on by one call only: each copies them.
 pub(crate) fn enter(e: u32, rows: &mut [[u8; 32]; 8], first: usize, symbols: &[u8], depth: usize)
     requires { ⌜ OneOf strengths e × (first < depth) × (depth ≤ 8) × (length (now rows) ≡ 8) ⌝ }
     ensures { λ _. ⌜ RowsOn e depth first (now (rows .entry)) (now (symbols .entry)) (now (rows .exit)) ⌝ }
 {
+    let few = symbols.len() < 100;
     if e == 8 {
-        return enter_by(TABLE_8, rows, first, symbols, depth);
+        if few {
+            return enter_few(TABLE_8, rows, first, symbols, depth);
+        }
+        return enter_many(TABLE_8, rows, first, symbols, depth);
     }
-    enter_by(TABLE_16, rows, first, symbols, depth)
+    if few {
+        return enter_few(TABLE_16, rows, first, symbols, depth);
+    }
+    enter_many(TABLE_16, rows, first, symbols, depth)
 }
 
 // The checks follow the frame, interleaved as it is.

@@ -6,7 +6,7 @@ use Prim.Native.Nat.{ℕ, zero, suc, _+_, _-_, _*_, _/_, _%_, _≤_, _<_}
 use native.Mathlib.Nat.{mod-add-div}
 use native.Mathlib.Omega.{arith}
 use native.Mathlib.Decide.{ℕ-discrete}
-use lib.ListN.{length, getD, drop, set, length-set, drop-of-length-le, replicate, length-replicate, getD-replicate, List·getD-eq-default}
+use lib.ListN.{length, getD, drop, set, length-set, drop-of-length-le, replicate, length-replicate, List·getD-eq-default}
 use lib.Seq.{getD-set-same, getD-set-other}
 use Rattle.field.specs.Field.{_⊕_, _·_, pow, inverseOf}
 use Rattle.field.proofs.Sum.{⊕-comm}
@@ -17,7 +17,7 @@ use Rattle.codewords.specs.Locators.{beta, X}
 use Rattle.codewords.specs.Errors.{errorIfRoot, errorOf, errorAt}
 use Rattle.codewords.proofs.Division.{length-quot}
 use Rattle.codewords.proofs.ErrorsFound.{errorIfRoot-zero}
-use Rattle.words.specs.Working.{Filled, terms, productAt, productSumAt, inverseAt, locatorPower, hornerAt, laterAt, dividedAt, slopeAt, errorAtEach, HoldsDivision, Listed, HoldsRoots, AreRoots, Placed, HoldsPlaces}
+use Rattle.words.specs.Working.{Filled, terms, scaledSumAt, productAt, productSumAt, inverseAt, locatorPower, hornerAt, laterAt, dividedAt, slopeAt, errorAtEach, HoldsDivision, Listed, HoldsRoots, AreRoots, Placed, HoldsPlaces}
 use Rattle.words.proofs.Arrays.{zero-at}
 use Rattle.words.proofs.Coefficients.{eval-drop, dot-drop, at-quot}
 use Rattle.words.proofs.InversesListed.{inverse-times}
@@ -89,9 +89,9 @@ module _ (places : ℕ) (s p points above below rest : List ℕ) (j : ℕ) (h : 
   coefficient-is : (i : ℕ) → i < places → getD rest i 0 ≡ getD (quot p (getD points i 0)) (j - 1) 0
   coefficient-is i l = rest-at i l ∙ sym (at-quot p (getD points i 0) (j - 1))
 
-  pub dividing-turn : (x : ℕ) (a b r : List ℕ) → x ≡ terms s (j - 1) → Filled (productSumAt (replicate places x) rest above) places a places → Filled (productSumAt points below rest) places b places
+  pub dividing-turn : (x : ℕ) (a b r : List ℕ) → x ≡ terms s (j - 1) → Filled (scaledSumAt x rest above) places a places → Filled (productSumAt points below rest) places b places
       → Filled (hornerAt rest points (getD p (j - 1) 0)) places r places → Dividing places s p points a b r (j - 1)
-  unfolding productSumAt hornerAt
+  unfolding scaledSumAt productSumAt hornerAt
   dividing-turn x a b r e A B R =
       record {
         rest-is = λ i l.
@@ -103,7 +103,7 @@ module _ (places : ℕ) (s p points above below rest : List ℕ) (j : ℕ) (h : 
         above-is = λ i l.
             A .each i l
             ∙ ap₂ (λ (u v : ℕ). u ⊕ v)
-            (ap₂ (λ (u v : ℕ). u · v) (getD-replicate places i x 0 l ∙ e) (coefficient-is i l) ∙ ·-comm (terms s (j - 1)) (getD (quot p (getD points i 0)) (j - 1) 0))
+            (ap₂ (λ (u v : ℕ). u · v) e (coefficient-is i l) ∙ ·-comm (terms s (j - 1)) (getD (quot p (getD points i 0)) (j - 1) 0))
             (D .above-is i l ∙ ap (λ (k : ℕ). dot (terms s) k (drop k (quot p (getD points i 0)))) (sym (up j h)))
             ∙ sym (dot-drop (terms s) (quot p (getD points i 0)) (j - 1) (j - 1));
         below-is = λ i l.

@@ -11,7 +11,7 @@ use Rattle.field.proofs.Below.{agree, equal-below}
 use Rattle.field.proofs.Product.{·-ac, ·-one-octet}
 use Rattle.field.proofs.Powers.{pow-mul}
 use Rattle.codewords.specs.Locators.{beta, X}
-use Rattle.words.specs.Working.{Filled, laterAt, productAt, productSumAt, hornerAt, powerOfEach}
+use Rattle.words.specs.Working.{Filled, laterAt, scaledSumAt, productAt, productSumAt, hornerAt, powerOfEach}
 use Rattle.words.proofs.Arrays.{filled-turn, sum-turn}
 
 -- ---- the loops, on rows of any width
@@ -28,6 +28,11 @@ module _ {width : ℕ} where
   pub times-turn : (a b out : List ℕ) (i product : ℕ) → Filled (productAt a b) width out i → i < width → product ≡ getD a i 0 · getD b i 0 → Filled (productAt a b) width (set out i product) (i + 1)
   unfolding productAt
   times-turn a b out i product F h e = filled-turn (productAt a b) width out i product F h e
+
+  pub scaled-plus-turn : (x : ℕ) (a b out : List ℕ) (i product : ℕ) → Filled (scaledSumAt x a b) width out i → i < width → product ≡ x · getD a i 0
+      → Filled (scaledSumAt x a b) width (set out i (bitXor product (getD b i 0))) (i + 1)
+  unfolding scaledSumAt
+  scaled-plus-turn x a b out i product F h e = sum-turn (scaledSumAt x a b) width out i product (getD b i 0) F h (ap (λ (y : ℕ). y ⊕ getD b i 0) e)
 
   pub times-plus-turn : (a b c out : List ℕ) (i product : ℕ) → Filled (productSumAt a b c) width out i → i < width → product ≡ getD a i 0 · getD b i 0
       → Filled (productSumAt a b c) width (set out i (bitXor product (getD c i 0))) (i + 1)

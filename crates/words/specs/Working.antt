@@ -33,7 +33,10 @@ byRootAt z p j = getD (shiftBy 1 p) j 0 ⊕ z · getD p j 0
 unfoldable pub hornerAt : List ℕ → List ℕ → ℕ → ℕ → ℕ
 hornerAt sums points symbol i = getD sums i 0 · getD points i 0 ⊕ symbol
 
--- Rows place by place: a b, a b + c, the inverse of a; and a list from a place on.
+-- Rows place by place: x a + b, a b, a b + c, the inverse of a; and a list from a place on.
+unfoldable pub scaledSumAt : ℕ → List ℕ → List ℕ → ℕ → ℕ
+scaledSumAt x a b i = x · getD a i 0 ⊕ getD b i 0
+
 unfoldable pub productAt : List ℕ → List ℕ → ℕ → ℕ
 productAt a b i = getD a i 0 · getD b i 0
 

@@ -6,6 +6,7 @@ use crate::inverses::inverses;
 use crate::locators::locators;
 use crate::roots::Roots;
 use crate::rows::row_from;
+use crate::rows::scaled_plus;
 use crate::rows::times;
 use crate::rows::times_plus;
 use crate::rows::with_symbol;
@@ -54,8 +55,7 @@ fn divided(s: &[u8], lambda: &[u8], locators: &[u8; 16]) -> Division
     while j > 0 {
         j -= 1;
         let syndrome = term(s, j);
-        let each: [u8; 16] = [syndrome; 16];
-        let more_above = times_plus(&each, &rest, &above);
+        let more_above = scaled_plus(syndrome, &rest, &above);
         let more_below = times_plus(locators, &below, &rest);
         let more_rest = with_symbol(&rest, locators, lambda[j]);
         above = more_above;

@@ -23,11 +23,11 @@ sub-j c = search needs
 term-requires : tie.Need-term-requires Inv-loop μ-loop
 term-requires c κs = search needs
 
+scaled-plus-requires : tie.Need-scaled-plus-requires Inv-loop μ-loop
+scaled-plus-requires c κs = search needs
+
 times-plus-requires : tie.Need-times-plus-requires Inv-loop μ-loop
 times-plus-requires c κs = search needs
-
-times-plus-requires-2 : tie.Need-times-plus-requires-2 Inv-loop μ-loop
-times-plus-requires-2 c κs = search needs
 
 shared-slice-read-with-symbol : tie.Need-shared-slice-read-with-symbol Inv-loop μ-loop
 shared-slice-read-with-symbol c = search needs
@@ -41,11 +41,11 @@ loop-less c = search needs
 loop-again : tie.Need-loop-again Inv-loop μ-loop
 loop-again c =
     let above = c .before .before .before .before .before .before in
-    let syndrome = above .before .before .before .before in
+    let syndrome = above .before .before .before in
     let top = syndrome .before .before in (
       omega arith,
-      dividing-turn 16 _ _ _ _ _ _ (top .loop .j) (omega arith) (top .loop .inv .1) _ _ _ _ (syndrome .term .ensures) (above .times-plus .ensures)
-          (c .before .before .before .times-plus2 .ensures) (c .with-symbol .ensures),
+      dividing-turn 16 _ _ _ _ _ _ (top .loop .j) (omega arith) (top .loop .inv .1) _ _ _ _ (syndrome .term .ensures) (above .scaled-plus .ensures)
+          (c .before .before .before .times-plus .ensures) (c .with-symbol .ensures),
     )
 
 returns : tie.Need-returns Inv-loop μ-loop
@@ -62,8 +62,8 @@ divided-spec =
     loop-holds
     sub-j
     term-requires
+    scaled-plus-requires
     times-plus-requires
-    times-plus-requires-2
     shared-slice-read-with-symbol
     with-symbol-requires
     loop-less
