@@ -6,7 +6,7 @@ ghost use lib.ListN.{length};
 ghost use Rattle.check_rows.specs.Rows.{SumTable};
 ghost use Rattle.refusals.specs.Order.{OneOf};
 ghost use Rattle.refusals.specs.Sizes.{strengths};
-ghost use Rattle.reed_solomon.specs.EncoderWorking.{EnteredBy, RowsBy, RowsOn, ChecksPut};
+ghost use Rattle.reed_solomon.specs.EncoderWorking.{StrengthTable, EnteredBy, RowsBy, RowsOn, ChecksPut};
 ghost use Rattle.reed_solomon.specs.Outcome.{EncodeOutcome};
 use crate::table_8::TABLE_8;
 use crate::table_16::TABLE_16;
@@ -65,7 +65,20 @@ fn enter_many(bits: [u8; 256], rows: &mut [[u8; 32]; 8], first: usize, symbols: 
     }
 }
 
-// To build the table takes as long as a hundred steps by bits. The eight rows are handed on by one call only: each copies them.
+// The eight rows of each strength, for which one computed test is made.
+fn bits_8() -> [u8; 256]
+    ensures { λ r. ⌜ StrengthTable 8 r ⌝ }
+{
+    TABLE_8
+}
+
+fn bits_16() -> [u8; 256]
+    ensures { λ r. ⌜ StrengthTable 16 r ⌝ }
+{
+    TABLE_16
+}
+
+// For fewer symbols the table would take longer to build than it spares. The eight rows are handed on by one call only: each copies them.
 pub(crate) fn enter(e: u32, rows: &mut [[u8; 32]; 8], first: usize, symbols: &[u8], depth: usize)
     requires { ⌜ OneOf strengths e × (first < depth) × (depth ≤ 8) × (length (now rows) ≡ 8) ⌝ }
     ensures { λ _. ⌜ RowsOn e depth first (now (rows .entry)) (now (symbols .entry)) (now (rows .exit)) ⌝ }
@@ -73,14 +86,14 @@ pub(crate) fn enter(e: u32, rows: &mut [[u8; 32]; 8], first: usize, symbols: &[u
     let few = symbols.len() < 100;
     if e == 8 {
         if few {
-            return enter_few(TABLE_8, rows, first, symbols, depth);
+            return enter_few(bits_8(), rows, first, symbols, depth);
         }
-        return enter_many(TABLE_8, rows, first, symbols, depth);
+        return enter_many(bits_8(), rows, first, symbols, depth);
     }
     if few {
-        return enter_few(TABLE_16, rows, first, symbols, depth);
+        return enter_few(bits_16(), rows, first, symbols, depth);
     }
-    enter_many(TABLE_16, rows, first, symbols, depth)
+    enter_many(bits_16(), rows, first, symbols, depth)
 }
 
 // The checks follow the frame, interleaved as it is.
