@@ -15,7 +15,7 @@ use Rattle.codewords.proofs.WordValues.{length-pair, value-⊞}
 use Rattle.codewords.proofs.LineWords.{conversion-⊞, unless-alike}
 
 -- the code is linear
-codeword-⊞ : (e : ℕ) (u v : List ℕ) → Codeword e u → Codeword e v → Codeword e (u ⊞ v)
+pub codeword-⊞ : (e : ℕ) (u v : List ℕ) → Codeword e u → Codeword e v → Codeword e (u ⊞ v)
 codeword-⊞ e u v A B =
     record {
       full = length-pair u v same ∙ A .full;

@@ -20,3 +20,4 @@ pub mod LineWords
 pub mod ZeroWords
 pub mod Codewords
 pub mod AddedCodewords
+pub mod OnesWords

@@ -29,6 +29,10 @@ pub line-octets : (w : List ℕ) → Octets (map toLine w)
 line-octets [] = tt
 line-octets (c ∷ w) = (toLine-lt c, line-octets w)
 
+pub conversion-equal : (n c : ℕ) → map toConventional (replicate n c) ≡ replicate n (toConventional c)
+conversion-equal zero c = refl
+conversion-equal (suc n) c = ap {B = List ℕ} (λ (w : List ℕ). toConventional c ∷ w) (conversion-equal n c)
+
 pub back-to-line : (w : List ℕ) → Octets w → map toLine (map toConventional w) ≡ w
 back-to-line [] o = refl
 back-to-line (c ∷ w) o = ap₂ {C = List ℕ} (λ (x : ℕ) (y : List ℕ). x ∷ y) (line-conventional c (o .0)) (back-to-line w (o .1))

@@ -1,7 +1,7 @@
 -- Zeros are a codeword of every strength, with any number of them taken as fill: their polynomial vanishes everywhere.
-use mathlib.Core.Path.{_≡_, refl, ap, ap₂, _∙_}
-use mathlib.Core.List.{List, _∷_, map}
-use Prim.Native.Nat.{ℕ, zero, suc, _+_, _*_, _≤_}
+use mathlib.Core.Path.{_≡_, ap, _∙_}
+use mathlib.Core.List.{List, map}
+use Prim.Native.Nat.{ℕ, _+_, _*_, _≤_}
 use native.Mathlib.Omega.{arith}
 use lib.ListN.{replicate, length-replicate}
 use lib.Seq.{take-at}
@@ -10,11 +10,7 @@ use Rattle.field.specs.Line.{toConventional}
 use Rattle.field.proofs.Conversions.{toConventional-zero}
 use Rattle.codewords.specs.Words.{valueAt, Codeword, differing, withFill, Good}
 use Rattle.codewords.proofs.WordValues.{octets-++, zeros-octets, zeros-value, fill-value, fill-length}
-use Rattle.codewords.proofs.LineWords.{conversion-fill, differing-front}
-
-converted-zeros : (n : ℕ) → map toConventional (replicate n 0) ≡ replicate n 0
-converted-zeros zero = refl
-converted-zeros (suc n) = ap₂ {C = List ℕ} (λ (x : ℕ) (y : List ℕ). x ∷ y) toConventional-zero (converted-zeros n)
+use Rattle.codewords.proofs.LineWords.{conversion-equal, conversion-fill, differing-front}
 
 module _ (q n : ℕ) where
   -- the word of q zeros of fill and n zeros sent
@@ -23,7 +19,7 @@ module _ (q n : ℕ) where
 
   vanishing : (z : ℕ) → valueAt (map toConventional zeroWord) z ≡ 0
   vanishing z =
-      ap (λ (word : List ℕ). valueAt word z) (conversion-fill q (replicate n 0) ∙ ap (withFill q) (converted-zeros n)) ∙ fill-value q (replicate n 0) z ∙ zeros-value n z
+      ap (λ (word : List ℕ). valueAt word z) (conversion-fill q (replicate n 0) ∙ ap (withFill q) (conversion-equal n 0 ∙ ap (replicate n) toConventional-zero)) ∙ fill-value q (replicate n 0) z ∙ zeros-value n z
 
   pub zero-codeword : (e : ℕ) → q + n ≡ 255 → Codeword e zeroWord
   zero-codeword e whole =
