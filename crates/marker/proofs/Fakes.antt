@@ -12,14 +12,14 @@ use Rattle.refusals.proofs.Verdicts.{parameter-nonzero}
 
 -- The number looked at that an answer tells; a refusal tells none.
 abbrev pub toldLooked : Searched → ℕ
-toldLooked (Found place wrong looked) = looked
+toldLooked (Found place form wrong looked) = looked
 toldLooked (Absent looked) = looked
 toldLooked (Spent next looked) = looked
 toldLooked (Refused p) = 0
 
 -- The number that document 01 gives: found, place - start + 1; absent, as many as remained; spent, the budget.
 abbrev pub placesLooked : List ℕ → ℕ → ℕ → Searched → ℕ
-placesLooked stream start budget (Found place wrong looked) = place - start + 1
+placesLooked stream start budget (Found place form wrong looked) = place - start + 1
 placesLooked stream start budget (Absent looked) = remaining stream start
 placesLooked stream start budget (Spent next looked) = budget
 placesLooked stream start budget (Refused p) = 0
@@ -28,7 +28,7 @@ module _ (t : ℕ) (stream : List ℕ) (start budget : ℕ) where
   -- A search that is not refused tells the number that document 01 gives, and never looks at more places than its budget.
   pub looked-as-defined : (answer : Searched) → SearchOutcome t stream start budget answer → searchedNumber answer ≡ 0
       → (toldLooked answer ≡ placesLooked stream start budget answer) × (toldLooked answer ≤ budget)
-  looked-as-defined (Found place wrong looked) O z = (O .looked z .counted, O .looked z .affordable)
+  looked-as-defined (Found place form wrong looked) O z = (O .looked z .counted, O .looked z .affordable)
   looked-as-defined (Absent looked) O z = (O .looked z .counted, O .looked z .affordable)
   looked-as-defined (Spent next looked) O z = (O .looked z .counted, omega (arith, O .looked z .counted))
   looked-as-defined (Refused p) O z = absurd (parameter-nonzero p z)

@@ -1,5 +1,5 @@
 -- For the same inputs the test and the search have one permitted answer, and a larger budget never changes a found or an absent one.
-use mathlib.Core.Path.{_≡_, refl, sym, ap, _∙_}
+use mathlib.Core.Path.{_≡_, refl, sym, ap, ap₂, _∙_}
 use mathlib.Core.Logic.{inl, inr}
 use mathlib.Core.List.{List}
 use Prim.Native.Nat.{ℕ, _≤_, _<_}
@@ -9,11 +9,12 @@ use Rattle.refusals.specs.declared.MarkerRefusal.the-variants.{Parameters, Wron
 use Rattle.refusals.specs.declared.Parameter.{Parameter}
 use Rattle.refusals.specs.Numbers.{parameterNumber}
 use Rattle.refusals.specs.Calls.{markerOrder, searchOrder}
+use Rattle.marker.specs.declared.Form.{Form}
 use Rattle.marker.specs.declared.Tested.{Tested}
 use Rattle.marker.specs.declared.Tested.the-variants as tested
 use Rattle.marker.specs.declared.Searched.{Searched}
 use Rattle.marker.specs.declared.Searched.the-variants.{Found, Absent, Spent, Refused}
-use Rattle.marker.specs.Place.{wrongBits, Fits, NoneFits}
+use Rattle.marker.specs.Place.{fewestWrong, Fits, NoneFits}
 use Rattle.marker.specs.Outcome.{testedNumber, searchedNumber, TestOutcome, SearchOutcome, FoundFirst, NoneLeft, BudgetSpent, Looked}
 use Rattle.refusals.proofs.Orders.{first-unique}
 use Rattle.refusals.proofs.Settled.{parameter-known}
@@ -21,7 +22,7 @@ use Rattle.refusals.proofs.Verdicts.{parameter-nonzero, parameter-not-nine}
 
 -- The answers that a larger budget never changes.
 abbrev pub FoundOrAbsent : Searched → Type 0
-FoundOrAbsent (Found place wrong looked) = Unit
+FoundOrAbsent (Found place form wrong looked) = Unit
 FoundOrAbsent (Absent looked) = Unit
 FoundOrAbsent (Spent next looked) = ⊥
 FoundOrAbsent (Refused p) = ⊥
@@ -30,21 +31,21 @@ FoundOrAbsent (Refused p) = ⊥
 
 module _ (t : ℕ) (octets : List ℕ) where
   same-answer : (a b : Tested) → testedNumber a ≡ testedNumber b → TestOutcome t octets a → TestOutcome t octets b → a ≡ b
-  same-answer (tested.Accepted x) (tested.Accepted y) n p q = ap tested.Accepted (p .value (inl refl) ∙ sym (q .value (inl refl)))
-  same-answer (tested.Accepted x) (tested.Refused (Parameters b)) n p q = absurd (parameter-nonzero b (sym n))
-  same-answer (tested.Accepted x) (tested.Refused (WrongBits y)) n p q = absurd (omega arith)
-  same-answer (tested.Refused (Parameters a)) (tested.Accepted y) n p q = absurd (parameter-nonzero a n)
+  same-answer (tested.Accepted f x) (tested.Accepted g y) n p q = ap₂ tested.Accepted (p .form ∙ sym (q .form)) (p .value (inl refl) ∙ sym (q .value (inl refl)))
+  same-answer (tested.Accepted f x) (tested.Refused (Parameters b)) n p q = absurd (parameter-nonzero b (sym n))
+  same-answer (tested.Accepted f x) (tested.Refused (WrongBits y)) n p q = absurd (omega arith)
+  same-answer (tested.Refused (Parameters a)) (tested.Accepted g y) n p q = absurd (parameter-nonzero a n)
   same-answer (tested.Refused (Parameters a)) (tested.Refused (Parameters b)) n p q =
       ap (λ r. tested.Refused (Parameters r)) (parameter-known a b n)
   same-answer (tested.Refused (Parameters a)) (tested.Refused (WrongBits y)) n p q = absurd (parameter-not-nine a n)
-  same-answer (tested.Refused (WrongBits x)) (tested.Accepted y) n p q = absurd (omega arith)
+  same-answer (tested.Refused (WrongBits x)) (tested.Accepted g y) n p q = absurd (omega arith)
   same-answer (tested.Refused (WrongBits x)) (tested.Refused (Parameters b)) n p q = absurd (parameter-not-nine b (sym n))
   same-answer (tested.Refused (WrongBits x)) (tested.Refused (WrongBits y)) n p q =
       ap (λ w. tested.Refused (WrongBits w)) (p .value (inr refl) ∙ sym (q .value (inr refl)))
 
   pub test-settled : (a b : Tested) → TestOutcome t octets a → TestOutcome t octets b → a ≡ b
   test-settled a b p q =
-      let order = markerOrder t (length octets) (wrongBits octets 0) in
+      let order = markerOrder t (length octets) (fewestWrong octets 0) in
       same-answer a b (first-unique order (testedNumber a) (testedNumber b) (p .number) (q .number)) p q
 
 -- ---- the search
@@ -58,9 +59,9 @@ module _ (t : ℕ) (s : List ℕ) (start : ℕ) where
       omega arith
 
   -- What one answer says leaves no other to a search whose budget is as large or larger.
-  found-kept : {budget larger place wrong looked : ℕ} → budget ≤ larger → FoundFirst t s start budget place wrong looked → (a : Searched)
-      → Looked t s start larger a → a ≡ Found place wrong looked
-  found-kept l f (Found place wrong looked) g =
+  found-kept : {budget larger place : ℕ} {form : Form} {wrong looked : ℕ} → budget ≤ larger → FoundFirst t s start budget place form wrong looked → (a : Searched)
+      → Looked t s start larger a → a ≡ Found place form wrong looked
+  found-kept l f (Found place form wrong looked) g =
       let same : place ≡ _ = same-place (g .from) (f .from) (g .fits) (f .fits) (g .first) (f .first) in
       cc
   found-kept l f (Absent looked) g = absurd (g .none _ (f .from) (f .inside) (f .fits))
@@ -69,7 +70,7 @@ module _ (t : ℕ) (s : List ℕ) (start : ℕ) where
 
   absent-kept : {budget larger looked : ℕ} → budget ≤ larger → NoneLeft t s start budget looked → (a : Searched)
       → Looked t s start larger a → a ≡ Absent looked
-  absent-kept l h (Found place wrong looked) g = absurd (h .none place (g .from) (g .inside) (g .fits))
+  absent-kept l h (Found place form wrong looked) g = absurd (h .none place (g .from) (g .inside) (g .fits))
   absent-kept l h (Absent looked) g = ap Absent (g .counted ∙ sym (h .counted))
   absent-kept l h (Spent next looked) g = absurd (omega arith)
   absent-kept l h (Refused p) g = absurd g
@@ -77,13 +78,13 @@ module _ (t : ℕ) (s : List ℕ) (start : ℕ) where
   -- A spent or a refused one is kept by the same budget.
   spent-kept : {budget next looked : ℕ} → BudgetSpent t s start budget next looked → (a : Searched) → Looked t s start budget a
       → a ≡ Spent next looked
-  spent-kept h (Found place wrong looked) g = sym (found-kept (omega arith) g (Spent _ _) h)
+  spent-kept h (Found place form wrong looked) g = sym (found-kept (omega arith) g (Spent _ _) h)
   spent-kept h (Absent looked) g = sym (absent-kept (omega arith) g (Spent _ _) h)
   spent-kept h (Spent next looked) g = cc
   spent-kept h (Refused p) g = absurd g
 
   refused-kept : (p : Parameter) (a : Searched) → parameterNumber p ≡ searchedNumber a → a ≡ Refused p
-  refused-kept p (Found place wrong looked) n = absurd (parameter-nonzero p n)
+  refused-kept p (Found place form wrong looked) n = absurd (parameter-nonzero p n)
   refused-kept p (Absent looked) n = absurd (parameter-nonzero p n)
   refused-kept p (Spent next looked) n = absurd (parameter-nonzero p n)
   refused-kept p (Refused q) n = ap Refused (parameter-known q p (sym n))
@@ -96,13 +97,13 @@ module _ (t : ℕ) (s : List ℕ) (start : ℕ) where
 
   pub larger-budget : {budget larger : ℕ} → budget ≤ larger → (a b : Searched) → SearchOutcome t s start budget a
       → SearchOutcome t s start larger b → FoundOrAbsent a → b ≡ a
-  larger-budget l (Found place wrong looked) b p q f = found-kept l (p .looked refl) b (q .looked (sym (same-number p q)))
+  larger-budget l (Found place form wrong looked) b p q f = found-kept l (p .looked refl) b (q .looked (sym (same-number p q)))
   larger-budget l (Absent looked) b p q f = absent-kept l (p .looked refl) b (q .looked (sym (same-number p q)))
   larger-budget l (Spent next looked) b p q f = absurd f
   larger-budget l (Refused r) b p q f = absurd f
 
   pub search-settled : {budget : ℕ} (a b : Searched) → SearchOutcome t s start budget a → SearchOutcome t s start budget b → a ≡ b
-  search-settled (Found place wrong looked) b p q = sym (larger-budget (omega arith) (Found place wrong looked) b p q tt)
+  search-settled (Found place form wrong looked) b p q = sym (larger-budget (omega arith) (Found place form wrong looked) b p q tt)
   search-settled (Absent looked) b p q = sym (larger-budget (omega arith) (Absent looked) b p q tt)
   search-settled (Spent next looked) b p q = sym (spent-kept (p .looked refl) b (q .looked (sym (same-number p q))))
   search-settled (Refused r) b p q = sym (refused-kept r b (same-number p q))

@@ -10,8 +10,11 @@ use lib.Count.{ones}
 use lib.ListN.{getD, length}
 use Rattle.octets.specs.Bits.{bitAt}
 use Rattle.octets.proofs.Bits.{bit-of-octet}
-use Rattle.marker.specs.Place.{wrongBits, NoneFits, remaining}
+use Rattle.marker.specs.declared.Form.{Form}
+use Rattle.marker.specs.declared.Form.the-variants.{True}
+use Rattle.marker.specs.Place.{wrongBits, nearer, fewer, formAt, fewestWrong, NoneFits, remaining}
 use Rattle.marker.specs.Outcome.{FoundFirst, NoneLeft, BudgetSpent}
+use Rattle.marker.proofs.Forms.{named-at}
 use Rattle.marker.proofs.Word.{word, word-none, word-more, word-split, word-small, word-wrong, bit-small}
 
 -- The first bit of the octet in which the start lies: from it on bits enter the window.
@@ -93,13 +96,18 @@ module _ {tolerance : ℕ} {s : List ℕ} {start budget : ℕ} where
     }
 
     -- The wrong bits of the window are those of the place that is looked at.
-    here-wrong : start + 31 ≤ i * 8 + b → ones (bitXor next 0x1ACFFC1D) ≡ wrongBits s (start + looked)
+    here-wrong : start + 31 ≤ i * 8 + b → ones (bitXor next 0x1ACFFC1D) ≡ wrongBits True s (start + looked)
     here-wrong late =
         let place : i * 8 + (b + 1) - 32 ≡ start + looked = omega arith in
         let held : next ≡ word 32 s (start + looked) = rw place at (window-here s start (i * 8 + (b + 1)) (omega arith) carried-on) in
         rw held (word-wrong s (start + looked))
 
-    module _ {wrong : ℕ} (late : start + 31 ≤ i * 8 + b) (left : looked ≡ budget → ⊥) (w : wrong ≡ ones (bitXor next 0x1ACFFC1D)) where
+    module _ {form : Form} {wrong : ℕ} (late : start + 31 ≤ i * 8 + b) (left : looked ≡ budget → ⊥)
+        (near : (form ≡ nearer (ones (bitXor next 0x1ACFFC1D)) (32 - ones (bitXor next 0x1ACFFC1D)))
+        × (wrong ≡ fewer (ones (bitXor next 0x1ACFFC1D)) (32 - ones (bitXor next 0x1ACFFC1D)))) where
+      here : (form ≡ formAt s (start + looked)) × (wrong ≡ fewestWrong s (start + looked))
+      here = named-at s (start + looked) (here-wrong late) near
+
       pub onward : tolerance < wrong → Sofar tolerance s start budget (i * 8 + (b + 1)) next (looked + 1)
       onward over = record {
         reached = omega arith;
@@ -113,17 +121,18 @@ module _ {tolerance : ℕ} {s : List ℕ} {start budget : ℕ} where
           none-more p l h f =
               ⊎-elim
               (λ (same : p ≡ start + looked).
-              let here : wrongBits s (start + looked) ≤ tolerance = rw same at f in omega (arith, w, here-wrong late))
+              let fits : fewestWrong s (start + looked) ≤ tolerance = rw same at f in omega (arith, here .1))
               (λ earlier. so .none p l earlier f)
               (eq-or-lt-of-le (omega arith))
 
-      pub found : wrong ≤ tolerance → i < length s → FoundFirst tolerance s start budget (start + looked) wrong (looked + 1)
+      pub found : wrong ≤ tolerance → i < length s → FoundFirst tolerance s start budget (start + looked) form wrong (looked + 1)
       found fits inside = record {
         from = omega arith;
         inside = omega arith;
-        fits = omega (arith, w, here-wrong late);
+        fits = omega (arith, here .1);
         first = so .none;
-        bits = w ∙ here-wrong late;
+        named = here .0;
+        bits = here .1;
         counted = omega arith;
         affordable = omega arith;
       }

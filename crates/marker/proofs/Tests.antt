@@ -13,7 +13,8 @@ use Rattle.refusals.specs.declared.Verdict.{Verdict}
 use Rattle.refusals.specs.declared.Verdict.the-variants as verdict
 use Rattle.refusals.specs.declared.MarkerRefusal.the-variants as refusal
 use Rattle.marker.specs.declared.Tested.the-variants.{Accepted, Refused}
-use Rattle.marker.specs.Place.{wrongBits}
+use Rattle.marker.specs.declared.Form.{Form}
+use Rattle.marker.specs.Place.{formAt, fewestWrong}
 use Rattle.marker.specs.Outcome.{TestOutcome}
 use Rattle.refusals.proofs.Orders.{first-passes}
 use Rattle.refusals.proofs.Verdicts.{parameter-nonzero, parameter-not-nine, passed, stopped}
@@ -32,6 +33,7 @@ module _ {t : ℕ} (octets : List ℕ) {v : Verdict} (first : FirstOf (markerPar
   refused-parameters p e = record {
     number = stopped _ (markerParameters t (length octets)) v p e first;
     value = λ h. absurd (⊎-elim (parameter-nonzero p) (parameter-not-nine p) h);
+    form = tt;
   }
 
   module _ (e : v ≡ verdict.Accepted) where
@@ -42,12 +44,12 @@ module _ {t : ℕ} (octets : List ℕ) {v : Verdict} (first : FirstOf (markerPar
     four-octets-given = four-given accepted
 
     -- The wrong bits decide the number.
-    decided : (n : ℕ) → FirstOf (marker t (wrongBits octets 0) ∷ []) n → FirstOf (markerOrder t (length octets) (wrongBits octets 0)) n
+    decided : (n : ℕ) → FirstOf (marker t (fewestWrong octets 0) ∷ []) n → FirstOf (markerOrder t (length octets) (fewestWrong octets 0)) n
     decided n = first-passes (markerParameters t (length octets)) n (omega arith, (omega arith, tt)) accepted
 
-    module _ {wrong : ℕ} (w : wrong ≡ wrongBits octets 0) where
+    module _ {form : Form} {wrong : ℕ} (near : (form ≡ formAt octets 0) × (wrong ≡ fewestWrong octets 0)) where
       pub refused-wrong : t < wrong → TestOutcome t octets (Refused (refusal.WrongBits wrong))
-      refused-wrong over = record { number = decided 9 (inl (omega arith, refl)); value = λ h. w }
+      refused-wrong over = record { number = decided 9 (inl (omega arith, refl)); value = λ h. near .1; form = tt }
 
-      pub accepted-wrong : wrong ≤ t → TestOutcome t octets (Accepted wrong)
-      accepted-wrong fits = record { number = decided 0 (inr ((λ h. omega arith), refl)); value = λ h. w }
+      pub accepted-wrong : wrong ≤ t → TestOutcome t octets (Accepted form wrong)
+      accepted-wrong fits = record { number = decided 0 (inr ((λ h. omega arith), refl)); value = λ h. near .1; form = near .0 }

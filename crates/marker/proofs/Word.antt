@@ -1,7 +1,7 @@
 -- The bits from a place on as a number, first bit highest: how it grows, splits and is put together from octets, and that the ones of its
--- sum with the marker are the wrong bits.
+-- sum with the marker are the true form's wrong bits.
 use mathlib.Core.Path.{_≡_, refl, ap, _∙_}
-use mathlib.Core.List.{List, [], _∷_}
+use mathlib.Core.List.{List}
 use Prim.Native.Nat.{ℕ, zero, suc, _+_, _-_, _*_, _/_, _%_, _^_, _≤_, _<_}
 use native.Mathlib.Nat.{add-comm, add-suc, add-zero, div-div-eq-div-mul, pow-suc, mul-assoc, zero-add}
 use native.Mathlib.Omega.{arith}
@@ -10,6 +10,7 @@ use lib.Count.{ones, ones-step}
 use lib.ListN.{getD}
 use Rattle.octets.specs.Bits.{bitAt}
 use Rattle.octets.proofs.Bits.{bit-of-octet}
+use Rattle.marker.specs.declared.Form.the-variants.{True}
 use Rattle.marker.specs.Place.{marker, wrongAmong, wrongBits}
 
 -- The n bits from p on.
@@ -96,7 +97,7 @@ ones-doubled a b x y h k =
     let o : ones (bitXor a b * 2 + differ x y) ≡ differ x y + ones (bitXor a b) = cc (ones-step (bitXor a b * 2 + differ x y)) in
     ap ones e ∙ o ∙ add-comm (differ x y) (ones (bitXor a b))
 
-pub ones-wrong : (n : ℕ) (s : List ℕ) (p : ℕ) → ones (bitXor (word n s p) (word n marker 0)) ≡ wrongAmong n s p
+pub ones-wrong : (n : ℕ) (s : List ℕ) (p : ℕ) → ones (bitXor (word n s p) (word n marker 0)) ≡ wrongAmong True n s p
 unfolding word wrongAmong ones
 ones-wrong zero s p = refl
 ones-wrong (suc n) s p =
@@ -107,10 +108,5 @@ marker-word : word 32 marker 0 ≡ 0x1ACFFC1D
 unfolding word
 marker-word = refl
 
-pub word-wrong : (s : List ℕ) (p : ℕ) → ones (bitXor (word 32 s p) 0x1ACFFC1D) ≡ wrongBits s p
+pub word-wrong : (s : List ℕ) (p : ℕ) → ones (bitXor (word 32 s p) 0x1ACFFC1D) ≡ wrongBits True s p
 word-wrong s p = rw marker-word at (ones-wrong 32 s p)
-
--- The marker zeroed has 19 wrong bits (document 01, "The report program").
-pub zeros-have-nineteen : wrongBits (0 ∷ 0 ∷ 0 ∷ 0 ∷ []) 0 ≡ 19
-unfolding wrongAmong
-zeros-have-nineteen = refl

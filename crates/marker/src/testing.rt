@@ -1,20 +1,21 @@
 // The marker test.
 ghost use mathlib.Core.Path.{_≡_};
 ghost use lib.ListN.{length};
-ghost use Rattle.marker.specs.Place.{wrongBits};
+ghost use Rattle.marker.specs.Place.{formAt, fewestWrong};
 ghost use Rattle.marker.specs.Outcome.{TestOutcome};
 use crate::Tested;
+use crate::window::Near;
+use crate::window::nearer_form;
 use crate::window::octet_entered;
-use crate::window::wrong_bits;
 use refusals::MarkerRefusal;
 use refusals::Verdict;
 
-fn wrong_in(octets: &[u8]) -> u32
+fn nearer_in(octets: &[u8]) -> Near
     requires { ⌜ length (now octets) ≡ 4 ⌝ }
-    ensures { λ r. ⌜ r ≡ wrongBits (now (octets .entry)) 0 ⌝ }
+    ensures { λ r. ⌜ (r .form ≡ formAt (now (octets .entry)) 0) × (r .wrong ≡ fewestWrong (now (octets .entry)) 0) ⌝ }
 {
     let half = octet_entered(octet_entered(0, octets[0]), octets[1]);
-    wrong_bits(octet_entered(octet_entered(half, octets[2]), octets[3]))
+    nearer_form(octet_entered(octet_entered(half, octets[2]), octets[3]))
 }
 
 pub fn test(tolerance: u32, octets: &[u8]) -> Tested
@@ -24,9 +25,11 @@ pub fn test(tolerance: u32, octets: &[u8]) -> Tested
     if let Verdict::Refused(p) = checked {
         return Tested::Refused(MarkerRefusal::Parameters(p));
     }
-    let wrong = wrong_in(octets);
+    let near = nearer_in(octets);
+    let form = near.form;
+    let wrong = near.wrong;
     if wrong > tolerance {
         return Tested::Refused(MarkerRefusal::WrongBits(wrong));
     }
-    Tested::Accepted(wrong)
+    Tested::Accepted(form, wrong)
 }

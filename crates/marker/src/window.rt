@@ -1,8 +1,10 @@
-// The 32 received bits at a place as a number, first bit highest, and its wrong bits.
+// The 32 received bits at a place as a number, first bit highest, its wrong bits and the form that it is nearer to.
 ghost use mathlib.Core.Path.{_≡_};
 ghost use Prim.Native.Nat.{_+_, _-_, _*_, _/_, _%_, _^_, _<_};
 ghost use lib.Bits.{bitXor};
 ghost use lib.Count.{ones};
+ghost use Rattle.marker.specs.Place.{nearer, fewer};
+use crate::Form;
 
 // Written as 1A CF FC 1D.
 const MARKER: u32 = 0x1ACFFC1D;
@@ -11,6 +13,29 @@ pub(crate) fn wrong_bits(window: u32) -> u32
     ensures { λ r. ⌜ r ≡ ones (bitXor window 0x1ACFFC1D) ⌝ }
 {
     u32::count_ones(window ^ MARKER)
+}
+
+// A form, with its wrong bits.
+pub(crate) struct Near {
+    pub form: Form,
+    pub wrong: u32,
+}
+
+// The form that the window is nearer to; one count serves both.
+pub(crate) fn nearer_form(window: u32) -> Near
+    ensures { λ r. ⌜ (r .form ≡ nearer (ones (bitXor window 0x1ACFFC1D)) (32 - ones (bitXor window 0x1ACFFC1D))) × (r .wrong ≡ fewer (ones (bitXor window 0x1ACFFC1D)) (32 - ones (bitXor window 0x1ACFFC1D))) ⌝ }
+{
+    let wrong = wrong_bits(window);
+    if wrong <= 16 {
+        return Near {
+            form: Form::True,
+            wrong,
+        };
+    }
+    Near {
+        form: Form::Complement,
+        wrong: 32 - wrong,
+    }
 }
 
 // The window moved on by one bit, bit b of the octet, top bit first; its first bit falls out.

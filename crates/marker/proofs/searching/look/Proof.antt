@@ -1,169 +1,94 @@
--- `look` answers what it saw. Both loops keep `Sofar` before the next bit, i * 8 + b; the measures are the bits and the octets left.
--- Where the loops are left and nothing was found, by the budget or at the end, `Stopped` holds, from which either answer follows.
-use mathlib.Core.Path.{_≡_, refl}
-use mathlib.Core.Logic.{⊎-elim}
-use Prim.Native.Nat.{_≤_, _-_, _<_, _+_, _*_}
+-- `look` answers what the walk from the first place not passed answers, with the places passed counted.
 use native.Mathlib.Omega.{arith}
-use lib.ListN.{length}
-use Rattle.marker.proofs.Sofar.{Sofar, Stopped, begins, moved, skipped, onward, found, out-of-budget, ended, spent, absent}
+use Rattle.marker.proofs.Passing.{no-refusal, found-later, absent-later, spent-later}
 use borrow.Author.Needs.{needs}
 use Rattle.marker.proofs.searching.look.Statement.{statement}
 use Rattle.marker.proofs.searching.look.Tie as tie
 
-abbrev Inv-loop : tie.InvT-loop
-Inv-loop tolerance stream start budget octets first window₀ looked₀ i b₀ window looked b =
-    (b ≤ 8) × (i < octets) × (octets ≡ length stream) × Sofar tolerance stream start budget (i * 8 + b) window looked
+passed-requires : tie.Need-passed-requires
+passed-requires c κs = search needs
 
-abbrev μ-loop : tie.MeasureT-loop
-μ-loop tolerance stream start budget octets first window₀ looked₀ i b₀ window looked b = 8 - b
+add-walk : tie.Need-add-walk
+add-walk c = search needs
 
-abbrev Inv-octets : tie.InvT-octets
-Inv-octets tolerance stream start budget octets first window₀ looked₀ i₀ window looked i =
-    (i ≤ octets) × (octets ≡ length stream) × Sofar tolerance stream start budget (i * 8) window looked
+sub-walk : tie.Need-sub-walk
+sub-walk c = search needs
 
-abbrev μ-octets : tie.MeasureT-octets
-μ-octets tolerance stream start budget octets first window₀ looked₀ i₀ window looked i = octets - i
+walk-requires : tie.Need-walk-requires
+walk-requires c κs = search needs
 
-octets-holds : tie.Need-octets-holds Inv-loop μ-loop Inv-octets μ-octets
-octets-holds c = (omega arith, refl, begins)
+enum-known-place : tie.Need-enum-known-place
+enum-known-place c = search needs
 
-loop-holds : tie.Need-loop-holds Inv-loop μ-loop Inv-octets μ-octets
-loop-holds c = (omega arith, omega arith, refl, moved (omega arith) (c .before .octets .inv .2))
+add-t18 : tie.Need-add-t18
+add-t18 c =
+    let a = c .before .before .before .before .before .before .args in
+    let front = c .before .before .before .before .passed .ensures in
+    let seen = found-later (a .tolerance) (a .stream .now) (front .0) (front .1) (front .2) _ (c .before .place .given .1) (c .before .before .before .walk .ensures) in
+    omega (arith, seen .counted, seen .inside)
 
-shared-slice-read-bit-entered :
-    tie.Need-shared-slice-read-bit-entered Inv-loop μ-loop Inv-octets μ-octets
-shared-slice-read-bit-entered c = search needs
+enum-known-looked : tie.Need-enum-known-looked
+enum-known-looked c = search needs
 
-bit-entered-requires : tie.Need-bit-entered-requires Inv-loop μ-loop Inv-octets μ-octets
-bit-entered-requires c κs = search needs
+add-t19 : tie.Need-add-t19
+add-t19 c =
+    let a = c .before .before .before .before .before .before .args in
+    let front = c .before .before .before .before .passed .ensures in
+    let seen = absent-later (a .tolerance) (a .stream .now) (front .0) (front .1) (front .2) _ (c .before .looked .given .1) (c .before .before .before .walk .ensures) in
+    omega (arith, seen .counted)
 
-mul-if1 : tie.Need-mul-if1 Inv-loop μ-loop Inv-octets μ-octets
-mul-if1 c = search needs
+enum-known-place-2 : tie.Need-enum-known-place-2
+enum-known-place-2 c = search needs
 
-add-if1 : tie.Need-add-if1 Inv-loop μ-loop Inv-octets μ-octets
-add-if1 c = search needs
+add-t20 : tie.Need-add-t20
+add-t20 c =
+    let a = c .before .before .before .before .before .before .args in
+    let front = c .before .before .before .before .passed .ensures in
+    let seen = spent-later (a .tolerance) (a .stream .now) (front .0) (front .1) (front .2) _ (c .before .place2 .given .1) (c .before .before .before .walk .ensures) in
+    omega (arith, seen .counted, seen .inside)
 
-add-if1-2 : tie.Need-add-if1-2 Inv-loop μ-loop Inv-octets μ-octets
-add-if1-2 c = search needs
+enum-known-p : tie.Need-enum-known-p
+enum-known-p c = search needs
 
-add-b : tie.Need-add-b Inv-loop μ-loop Inv-octets μ-octets
-add-b c = search needs
-
-loop-less : tie.Need-loop-less Inv-loop μ-loop Inv-octets μ-octets
-loop-less c = search needs
-
-loop-again : tie.Need-loop-again Inv-loop μ-loop Inv-octets μ-octets
-loop-again c = (
-  omega arith,
-  omega arith,
-  refl,
-  let turn = c .before .before .before in
-      skipped _ _ (turn .loop-test .taken) (turn .before .loop .inv .3) (c .before .bit-entered .ensures) (c .if1 .taken),
-)
-
-wrong-bits-requires : tie.Need-wrong-bits-requires Inv-loop μ-loop Inv-octets μ-octets
-wrong-bits-requires c κs = search needs
-
-add-t22 : tie.Need-add-t22 Inv-loop μ-loop Inv-octets μ-octets
-add-t22 c = search needs
-
-add-t23 : tie.Need-add-t23 Inv-loop μ-loop Inv-octets μ-octets
-add-t23 c = search needs
-
-returns : tie.Need-returns Inv-loop μ-loop Inv-octets μ-octets
+returns : tie.Need-returns
 returns c =
-    let tested = c .before .before .before in
-    let turn = tested .before .before .before in
-    found _ _ (turn .loop-test .taken) (turn .before .loop .inv .3) (tested .before .bit-entered .ensures) (tested .if1 .left)
-    (c .before .before .if2 .left) (c .before .wrong-bits .ensures) (omega arith) (omega arith)
+    let a = c .before .before .before .before .before .before .args in
+    let front = c .before .before .before .before .passed .ensures in
+    found-later (a .tolerance) (a .stream .now) (front .0) (front .1) (front .2) _ (c .before .place .given .1) (c .before .before .before .walk .ensures)
 
-add-looked : tie.Need-add-looked Inv-loop μ-loop Inv-octets μ-octets
-add-looked c = search needs
+returns-2 : tie.Need-returns-2
+returns-2 c =
+    let a = c .before .before .before .before .before .before .args in
+    let front = c .before .before .before .before .passed .ensures in
+    absent-later (a .tolerance) (a .stream .now) (front .0) (front .1) (front .2) _ (c .before .looked .given .1) (c .before .before .before .walk .ensures)
 
-add-b-2 : tie.Need-add-b-2 Inv-loop μ-loop Inv-octets μ-octets
-add-b-2 c = search needs
+returns-3 : tie.Need-returns-3
+returns-3 c =
+    let a = c .before .before .before .before .before .before .args in
+    let front = c .before .before .before .before .passed .ensures in
+    spent-later (a .tolerance) (a .stream .now) (front .0) (front .1) (front .2) _ (c .before .place2 .given .1) (c .before .before .before .walk .ensures)
 
-loop-less-2 : tie.Need-loop-less-2 Inv-loop μ-loop Inv-octets μ-octets
-loop-less-2 c = search needs
-
-loop-again-2 : tie.Need-loop-again-2 Inv-loop μ-loop Inv-octets μ-octets
-loop-again-2 c = (
-  omega arith,
-  omega arith,
-  refl,
-  let tested = c .before .before .before in
-      let turn = tested .before .before .before in
-      onward _ _ (turn .loop-test .taken) (turn .before .loop .inv .3) (tested .before .bit-entered .ensures) (tested .if1 .left)
-      (c .before .before .if2 .left) (c .before .wrong-bits .ensures) (c .if3 .left),
-)
-
-add-i : tie.Need-add-i Inv-loop μ-loop Inv-octets μ-octets
-add-i c = search needs
-
-octets-less : tie.Need-octets-less Inv-loop μ-loop Inv-octets μ-octets
-octets-less c = search needs
-
-octets-again : tie.Need-octets-again Inv-loop μ-loop Inv-octets μ-octets
-octets-again c = (omega arith, refl, moved (omega arith) (c .before .loop .inv .3))
-
--- Both ways out at which nothing was found.
-abbrev StoppedAt : (c : tie.Left-octets Inv-loop μ-loop Inv-octets μ-octets) → Type 0
-StoppedAt c =
-    let given = c .before .before .before .args in
-    Stopped (given .tolerance) (given .stream .now) (given .start) (given .budget) (c .octets-test .looked)
-
-stopped : (c : tie.Left-octets Inv-loop μ-loop Inv-octets μ-octets) → StoppedAt c
-stopped c =
-    ⊎-elim (λ w. rw (w .2) (ended (moved (omega arith) (c .before .octets .inv .2))))
-    (λ w. rw (w .8) (out-of-budget _ _ (w .2 .taken) (w .1 .inv .3) (w .5 .left) (omega arith) (w .6 .taken)))
-    (c .octets-test .came)
-
-add-next : tie.Need-add-next Inv-loop μ-loop Inv-octets μ-octets
-add-next c = omega (arith, stopped c .bounded)
-
-add-if4 : tie.Need-add-if4 Inv-loop μ-loop Inv-octets μ-octets
-add-if4 c = omega (arith, stopped c .bounded)
-
-mul-if4 : tie.Need-mul-if4 Inv-loop μ-loop Inv-octets μ-octets
-mul-if4 c = search needs
-
-returns-2 : tie.Need-returns-2 Inv-loop μ-loop Inv-octets μ-octets
-returns-2 c = spent (stopped (c .before)) (c .if4 .taken)
-
-returns-3 : tie.Need-returns-3 Inv-loop μ-loop Inv-octets μ-octets
-returns-3 c = absent (stopped (c .before)) (c .if4 .left)
+returns-4 : tie.Need-returns-4
+returns-4 c =
+    let a = c .before .before .before .before .before .before .args in
+    no-refusal (a .tolerance) (a .stream .now) _ _ _ (c .before .p .given .1) (c .before .before .before .walk .ensures)
 
 pub look-spec : {M : Type 1} → statement M
 look-spec =
     tie.close
     (tie.spec
-    Inv-loop
-    μ-loop
-    Inv-octets
-    μ-octets
-    octets-holds
-    loop-holds
-    shared-slice-read-bit-entered
-    bit-entered-requires
-    mul-if1
-    add-if1
-    add-if1-2
-    add-b
-    loop-less
-    loop-again
-    wrong-bits-requires
-    add-t22
-    add-t23
+    passed-requires
+    add-walk
+    sub-walk
+    walk-requires
+    enum-known-place
+    add-t18
+    enum-known-looked
+    add-t19
+    enum-known-place-2
+    add-t20
+    enum-known-p
     returns
-    add-looked
-    add-b-2
-    loop-less-2
-    loop-again-2
-    add-i
-    octets-less
-    octets-again
-    add-next
-    add-if4
-    mul-if4
     returns-2
-    returns-3)
+    returns-3
+    returns-4)

@@ -1,4 +1,4 @@
--- `test` meets its outcome: each return cites the law for its branch, with what the checks and `wrong_in` ensure.
+-- `test` meets its outcome: each return cites the law for its branch, with what the checks and `nearer_in` ensure.
 use Rattle.marker.proofs.Tests.{refused-parameters, four-octets-given, refused-wrong, accepted-wrong}
 use borrow.Author.Needs.{needs}
 use Rattle.marker.proofs.testing.test.Statement.{statement}
@@ -16,18 +16,18 @@ returns c = refused-parameters _ (c .before .before .before .marker-parameters .
 enum-told : tie.Need-enum-told
 enum-told c = search needs
 
-wrong-in-requires : tie.Need-wrong-in-requires
-wrong-in-requires c κs = four-octets-given (c .before .before .before .before .args .octets .now) (c .before .before .marker-parameters .ensures) (c .enum-told .given .1)
+nearer-in-requires : tie.Need-nearer-in-requires
+nearer-in-requires c κs = four-octets-given (c .before .before .before .before .args .octets .now) (c .before .before .marker-parameters .ensures) (c .enum-told .given .1)
 
 returns-2 : tie.Need-returns-2
 returns-2 c =
     refused-wrong _ (c .before .before .before .before .marker-parameters .ensures) (c .before .before .enum-told .given .1)
-    (c .before .wrong-in .ensures) (c .if1 .taken)
+    (c .before .nearer-in .ensures) (c .if1 .taken)
 
 returns-3 : tie.Need-returns-3
 returns-3 c =
     accepted-wrong _ (c .before .before .before .before .marker-parameters .ensures) (c .before .before .enum-told .given .1)
-    (c .before .wrong-in .ensures) (c .if1 .left)
+    (c .before .nearer-in .ensures) (c .if1 .left)
 
 pub test-spec : {M : Type 1} → statement M
 test-spec =
@@ -37,6 +37,6 @@ test-spec =
     enum-known-checked
     returns
     enum-told
-    wrong-in-requires
+    nearer-in-requires
     returns-2
     returns-3)

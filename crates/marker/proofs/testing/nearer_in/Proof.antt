@@ -1,9 +1,10 @@
--- `wrong_in` answers the wrong bits of its four octets: entered one behind the other they are the 32 bits from place 0 on.
-use mathlib.Core.Path.{_≡_, _∙_}
+-- `nearer_in` names the form of its four octets: entered one behind the other they are the 32 bits from place 0 on.
+use mathlib.Core.Path.{_≡_}
+use Rattle.marker.proofs.Forms.{named-at}
 use Rattle.marker.proofs.Word.{word, four-octets, word-wrong}
 use borrow.Author.Needs.{needs}
-use Rattle.marker.proofs.testing.wrong_in.Statement.{statement}
-use Rattle.marker.proofs.testing.wrong_in.Tie as tie
+use Rattle.marker.proofs.testing.nearer_in.Statement.{statement}
+use Rattle.marker.proofs.testing.nearer_in.Tie as tie
 
 shared-slice-read-octet-entered : tie.Need-shared-slice-read-octet-entered
 shared-slice-read-octet-entered c = search needs
@@ -29,8 +30,8 @@ shared-slice-read-octet-entered-4 c = search needs
 octet-entered-requires-4 : tie.Need-octet-entered-requires-4
 octet-entered-requires-4 c κs = search needs
 
-wrong-bits-requires : tie.Need-wrong-bits-requires
-wrong-bits-requires c κs = search needs
+nearer-form-requires : tie.Need-nearer-form-requires
+nearer-form-requires c κs = search needs
 
 returns : tie.Need-returns
 returns c =
@@ -42,10 +43,10 @@ returns c =
     let window : c .before .octet-entered4 .result ≡ word 32 octets 0 =
     four-octets octets _ _ _ _ (λ i. known .shared-slice-known .given i .fits) (first .octet-entered .ensures)
     (second .octet-entered2 .ensures) (third .octet-entered3 .ensures) (c .before .octet-entered4 .ensures) in
-    c .wrong-bits .ensures ∙ rw window (word-wrong octets 0)
+    named-at octets 0 (rw window (word-wrong octets 0)) (c .nearer-form .ensures)
 
-pub wrong-in-spec : {M : Type 1} → statement M
-wrong-in-spec =
+pub nearer-in-spec : {M : Type 1} → statement M
+nearer-in-spec =
     tie.close
     (tie.spec
     shared-slice-read-octet-entered
@@ -56,5 +57,5 @@ wrong-in-spec =
     octet-entered-requires-3
     shared-slice-read-octet-entered-4
     octet-entered-requires-4
-    wrong-bits-requires
+    nearer-form-requires
     returns)
