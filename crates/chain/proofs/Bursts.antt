@@ -1,5 +1,6 @@
 -- The burst figure through receive: a marked block whose block part was altered only within the figure, and its marker within the tolerance, is received as the frame.
-use mathlib.Core.Path.{_≡_, refl, sym, _∙_, subst}
+-- `complement-received` says the same of that block with all bits inverted.
+use mathlib.Core.Path.{_≡_, refl, sym, ap, ap₂, _∙_, subst}
 use mathlib.Core.Bool.{Bool, true, false}
 use mathlib.Core.Logic.{_↔_}
 use mathlib.Core.List.{List}
@@ -11,11 +12,11 @@ use Rattle.refusals.specs.Numbers.{verdictNumber}
 use Rattle.refusals.specs.declared.Verdict.{Verdict}
 use Rattle.refusals.specs.declared.Verdict.the-variants.{Accepted}
 use Rattle.codewords.specs.Words.{Octets, differing}
-use Rattle.codewords.proofs.WordValues.{changed-octets}
-use Rattle.marker.specs.Place.{wrongBits}
-use Rattle.randomiser.specs.Sequence.{sequenceOctet}
-use Rattle.randomiser.proofs.Registers.{octet-small}
-use Rattle.randomiser.proofs.Theorems.{added-changed, added-alike}
+use Rattle.marker.specs.declared.Form.{Form}
+use Rattle.marker.specs.declared.Form.the-variants.{True}
+use Rattle.marker.specs.Place.{wrongBits, formAt}
+use Rattle.marker.proofs.Forms.{form-that-fits, form-fits}
+use Rattle.randomiser.proofs.Theorems.{added-alike}
 use Rattle.reed_solomon.specs.Blocks.{wordOf, sum}
 use Rattle.reed_solomon.specs.Bursts.{burstSymbols, burstBits, SymbolBurst, BitBurst, Corrected}
 use Rattle.reed_solomon.proofs.Interleaving.{words-alike}
@@ -23,15 +24,12 @@ use Rattle.reed_solomon.proofs.CodedBlocks.{EncodeLegal, outcome-legal, coded-o
 use Rattle.reed_solomon.proofs.Bursts.{word-differs, bits-in-symbols, corrected}
 use Rattle.chain.specs.declared.Received.{Received}
 use Rattle.chain.specs.declared.Received.the-variants.{Delivered}
-use Rattle.chain.specs.Outcome.{randomisedIf, opened, Transmitted, TransmitOutcome, ReceiveOutcome}
+use Rattle.chain.specs.Outcome.{randomisedIf, opened, blockIn, Transmitted, TransmitOutcome, ReceiveOutcome}
+use Rattle.chain.proofs.Opening.{marker-true, randomised-octets}
 use Rattle.chain.proofs.Settled.{block-size}
 use Rattle.chain.proofs.Conditions.{sent-encoded, altered-received}
 
 -- ---- what the randomiser keeps
-
-randomised-octets : (flag : Bool) (block : List ℕ) → Octets block → Octets (randomisedIf flag block)
-randomised-octets true block o = subst Octets (sym (added-changed 0 block)) (changed-octets sequenceOctet octet-small 0 block o)
-randomised-octets false block o = o
 
 -- blocks differ where they differed
 randomised-alike : (flag : Bool) (a b : List ℕ) → length a ≡ length b → (m : ℕ) → (getD a m 0 ≡ getD b m 0) ↔ (getD (randomisedIf flag a) m 0 ≡ getD (randomisedIf flag b) m 0)
@@ -41,8 +39,8 @@ randomised-alike false a b h m = ((λ same. same), (λ same. same))
 -- ---- a transmitted block, received after a burst
 
 module _ (e i q : ℕ) (flag : Bool) (frame before : List ℕ) (v : Verdict) (marked : List ℕ) (O : TransmitOutcome e i q flag frame before v marked) (accepted : verdictNumber v ≡ 0)
-    (t : ℕ) (few : t ≤ 3) (received out : List ℕ) (room : length out ≡ length frame) (fits : wrongBits received 0 ≤ t)
-    (answer : Received) (counts : List ℕ) (total : ℕ) (after : List ℕ) (R : ReceiveOutcome e i q e t flag received out answer counts total after) where
+    (t : ℕ) (few : t ≤ 3) (received out : List ℕ) (room : length out ≡ length frame) (fits : wrongBits True received 0 ≤ t)
+    (answer : Received) (counts : List ℕ) (total : ℕ) (turned : Bool) (after : List ℕ) (R : ReceiveOutcome e i q e t flag received out answer counts total turned after) where
   abbrev T : Transmitted e i q flag frame marked
   T = O .accepted accepted
 
@@ -71,16 +69,25 @@ module _ (e i q : ℕ) (flag : Bool) (frame before : List ℕ) (v : Verdict) (ma
       near : (w : ℕ) → w < i → differing (wordOf i q (drop 4 marked) w) (wordOf i q (drop 4 received) w) ≤ e
       near = word-differs e i q (legal .words .some) p n short (drop 4 marked) (drop 4 received) B
 
-      -- as many symbols of a word differ before opening as after
-      opened-alike : (w : ℕ) → differing (wordOf i q (drop 4 marked) w) (wordOf i q (drop 4 received) w) ≡ differing (wordOf i q (opened flag marked) w) (wordOf i q (opened flag received) w)
-      opened-alike w =
-          words-alike i (drop 4 marked) (drop 4 received) (opened flag marked) (opened flag received) (randomised-alike flag (drop 4 marked) (drop 4 received) (sym (B .size))) w q
+      -- neither is inverted
+      as-sent : blockIn flag marked ≡ randomisedIf flag (drop 4 marked)
+      as-sent = ap (λ (form : Form). opened form flag marked) (ap (λ (list : List ℕ). formAt list 0) (T .sent) ∙ marker-true (randomisedIf flag (T .block)) .0)
 
-      two : (answer ≡ Delivered) × (after ≡ frame) × ((w : ℕ) → w < i → getD counts w 0 ≡ differing (wordOf i q (opened flag marked) w) (wordOf i q (opened flag received) w))
+      as-received : blockIn flag received ≡ randomisedIf flag (drop 4 received)
+      as-received = ap (λ (form : Form). opened form flag received) (sym (form-that-fits received 0 few True fits))
+
+      -- as many symbols of a word differ before opening as after
+      opened-alike : (w : ℕ) → differing (wordOf i q (drop 4 marked) w) (wordOf i q (drop 4 received) w) ≡ differing (wordOf i q (blockIn flag marked) w) (wordOf i q (blockIn flag received) w)
+      opened-alike w =
+          words-alike i (drop 4 marked) (drop 4 received) (randomisedIf flag (drop 4 marked)) (randomisedIf flag (drop 4 received))
+          (randomised-alike flag (drop 4 marked) (drop 4 received) (sym (B .size))) w q
+          ∙ ap₂ (λ (a b : List ℕ). differing (wordOf i q a w) (wordOf i q b w)) (sym as-sent) (sym as-received)
+
+      two : (answer ≡ Delivered) × (after ≡ frame) × ((w : ℕ) → w < i → getD counts w 0 ≡ differing (wordOf i q (blockIn flag marked) w) (wordOf i q (blockIn flag received) w))
           × ((w : ℕ) → i ≤ w → getD counts w 0 ≡ 0) × (total ≡ sum counts)
       two =
-          altered-received e i q flag frame before v marked O accepted t few received out (whole (B .size)) room fits
-          (λ w h. omega (arith, near w h, opened-alike w)) answer counts total after R
+          altered-received e i q flag frame before v marked O accepted t few received out (whole (B .size)) room (form-fits t received 0 True fits)
+          (λ w h. omega (arith, near w h, opened-alike w)) answer counts total turned after R
 
   -- And one that was altered only within 8 x (E x I - 1) + 1 consecutive bits after the marker.
   pub burst-bits-received : (p n : ℕ) → n ≤ burstBits e i → BitBurst p n (drop 4 marked) (drop 4 received)

@@ -1,6 +1,6 @@
 -- What `receive` answers: refused for a parameter, refused for the marker, or as decode answers for the block opened.
-use mathlib.Core.Path.{_≡_, refl, sym, ap, _∙_, subst}
-use mathlib.Core.Bool.{Bool}
+use mathlib.Core.Path.{_≡_, refl, sym, ap, ap₂, _∙_, subst}
+use mathlib.Core.Bool.{Bool, false}
 use mathlib.Core.Logic.{inl, inr}
 use mathlib.Core.List.{List, [], _∷_, _++_}
 use Prim.Native.Nat.{ℕ, _+_, _-_, _≤_, _<_}
@@ -19,24 +19,26 @@ use Rattle.refusals.specs.declared.Verdict.{Verdict}
 use Rattle.refusals.specs.declared.Verdict.the-variants as verdict
 use Rattle.refusals.specs.declared.MarkerRefusal.{MarkerRefusal}
 use Rattle.refusals.specs.declared.MarkerRefusal.the-variants as refusal
+use Rattle.refusals.specs.declared.WordRefusal.{WordRefusal}
 use Rattle.refusals.specs.declared.WordRefusal.the-variants as lost
 use Rattle.refusals.proofs.Orders.{Begins, Clear, Numbered, accepted-clear, clear-accepted, not-different, first-unique, first-passes}
 use Rattle.refusals.proofs.Verdicts.{parameter-nonzero, parameter-not-nine, parameter-not-ten, same-verdict, passed, stopped}
 use Rattle.refusals.proofs.Legal.{LegalWords, legal-words}
-use Rattle.marker.specs.Place.{wrongBits}
+use Rattle.marker.specs.declared.Form.{Form}
+use Rattle.marker.specs.Place.{formAt, fewestWrong}
 use Rattle.marker.specs.Outcome.{testedNumber, TestOutcome}
 use Rattle.marker.specs.declared.Tested.{Tested}
 use Rattle.marker.specs.declared.Tested.the-variants as tested
 use Rattle.reed_solomon.specs.declared.Decoded.{Decoded}
 use Rattle.reed_solomon.specs.declared.Decoded.the-variants as decoded
 use Rattle.reed_solomon.specs.Outcome.{DecodeOutcome, decodedNumber}
-use Rattle.reed_solomon.proofs.Deliverable.{SomeLost, Order}
+use Rattle.reed_solomon.proofs.Deliverable.{SomeLost, Order, delivered-is}
 use Rattle.reed_solomon.proofs.Deliveries.{decode-numbers}
-use Rattle.chain.specs.declared.Stage.the-variants.{Parameters, Marker}
+use Rattle.chain.specs.declared.Stage.the-variants.{Parameters, Marker, Word}
 use Rattle.chain.specs.declared.Received.{Received}
 use Rattle.chain.specs.declared.Received.the-variants.{Delivered, Refused}
-use Rattle.chain.specs.Outcome.{randomisedIf, opened, receivedNumber, wordStage, StageRefuses, AsDecode, ReceiveOutcome}
-use Rattle.chain.proofs.Opening.{randomised-length, wrong-in-front}
+use Rattle.chain.specs.Outcome.{complemented, openedIf, opened, blockIn, saidInverted, receivedNumber, wordStage, StageRefuses, AsDecode, ReceiveOutcome}
+use Rattle.chain.proofs.Opening.{opened-length, form-in-front}
 use Rattle.chain.proofs.Transmissions.{block-most}
 
 -- An order whose first checks are not due is answered by the rest.
@@ -94,49 +96,65 @@ module _ (block before copied : List ℕ) (fits : length block ≤ length before
   pub copied-size : length (take (length block) copied) ≡ length block
   copied-size = ap length front-is
 
-  pub block-opened : (flag : Bool) (put : List ℕ) → put ≡ randomisedIf flag (take (length block) copied)
-      → (length (put ++ drop (length block) copied) ≡ length before) × (take (length block) (put ++ drop (length block) copied) ≡ randomisedIf flag block)
-  block-opened flag put is = (
+  pub block-opened : (turned flag : Bool) (put : List ℕ) → put ≡ openedIf turned flag (take (length block) copied)
+      → (length (put ++ drop (length block) copied) ≡ length before) × (take (length block) (put ++ drop (length block) copied) ≡ openedIf turned flag block)
+  block-opened turned flag put is = (
     length-append put (drop (length block) copied) ∙ omega (arith, put-size, length-drop (length block) copied, ap length copy, copied-length block before),
     take-at put (drop (length block) copied) (length block) put-size ∙ put-is,
   )
     where
-      put-is : put ≡ randomisedIf flag block
-      put-is = is ∙ ap (randomisedIf flag) front-is
+      put-is : put ≡ openedIf turned flag block
+      put-is = is ∙ ap (openedIf turned flag) front-is
 
       put-size : length put ≡ length block
-      put-size = ap length put-is ∙ randomised-length flag block
+      put-size = ap length put-is ∙ opened-length turned flag block
 
-pub opened-size : (flag : Bool) (block after : List ℕ) → take (length block) after ≡ randomisedIf flag block → length block ≡ length (take (length block) after)
-opened-size flag block after front = sym (ap length front ∙ randomised-length flag block)
+pub opened-size : (turned flag : Bool) (block after : List ℕ) → take (length block) after ≡ openedIf turned flag block → length block ≡ length (take (length block) after)
+opened-size turned flag block after front = sym (ap length front ∙ opened-length turned flag block)
 
-pub part-decoded : (e i q s : ℕ) (flag : Bool) (block frame : List ℕ) (front : List ℕ) (answer : Received) (given : Decoded) (counts : List ℕ) (total : ℕ) (after : List ℕ)
-    → front ≡ randomisedIf flag block → DecodeOutcome e i q s front frame given counts total after → answer ≡ wordStage given
-    → AsDecode e i q s (randomisedIf flag block) frame answer counts total after
-part-decoded e i q s flag block frame front answer given counts total after is O same =
-    record { answered = given; same = same; outcome = subst (λ (list : List ℕ). DecodeOutcome e i q s list frame given counts total after) is O }
+-- What decode made of the front, as receive says it: inverted only where it delivers.
+abbrev pub Part : ℕ → ℕ → ℕ → ℕ → List ℕ → List ℕ → Bool → Received → List ℕ → ℕ → Bool → List ℕ → Type 0
+Part e i q s block frame turned answer counts total said after = AsDecode e i q s block frame answer counts total after × (said ≡ saidInverted answer turned)
+
+never-delivered : (r : WordRefusal) → decodedNumber (decoded.Refused r) ≡ 0 → ⊥
+never-delivered r z = let same : decoded.Refused r ≡ decoded.Delivered = delivered-is (decoded.Refused r) z in let e : _≡_ {A = ℕ} 0 1 = cc in omega arith
+
+module _ (e i q s : ℕ) (block frame front : List ℕ) (turned : Bool) (given : Decoded) (counts : List ℕ) (total : ℕ) (after : List ℕ) (is : front ≡ block)
+    (O : DecodeOutcome e i q s front frame given counts total after) where
+  outcome : (d : Decoded) → given ≡ d → DecodeOutcome e i q s block frame d counts total after
+  outcome d same = rw (← is, ← same) O
+
+  pub part-delivered : given ≡ decoded.Delivered → Part e i q s block frame turned Delivered counts total turned after
+  part-delivered same = (record { answered = decoded.Delivered; same = refl; outcome = outcome decoded.Delivered same }, refl)
+
+  pub part-refused : (r : WordRefusal) → given ≡ decoded.Refused r → (answer : Received) (none : List ℕ) (nothing : ℕ) (said : Bool)
+      → (answer ≡ Refused (Word r)) × (nothing ≡ 0) × (none ≡ replicate 8 0) × (said ≡ false) → Part e i q s block frame turned answer none nothing said after
+  part-refused r same answer none nothing said reported =
+      rw (reported .0, reported .1, reported .2, reported .3)
+      (record { answered = decoded.Refused r; same = refl; outcome = rw (empty .1, empty .2) at (outcome (decoded.Refused r) same) }, refl)
+    where
+      empty : (after ≡ frame) × (counts ≡ replicate 8 0) × (total ≡ 0)
+      empty = O .refused (λ z. never-delivered r (ap decodedNumber (sym same) ∙ z))
 
 -- ---- receive
 
 module _ (e i q s t : ℕ) (flag : Bool) (marked frame : List ℕ) where
-  pub same-reception : (a b : Received) (c d : List ℕ) (m n : ℕ) (after : List ℕ) → a ≡ b → c ≡ d → m ≡ n
-      → ReceiveOutcome e i q s t flag marked frame b d n after → ReceiveOutcome e i q s t flag marked frame a c m after
-  same-reception a b c d m n after p r x O =
-      subst (λ (y : Received). ReceiveOutcome e i q s t flag marked frame y c m after) (sym p)
-      (subst (λ (y : List ℕ). ReceiveOutcome e i q s t flag marked frame b y m after) (sym r)
-      (subst (λ (y : ℕ). ReceiveOutcome e i q s t flag marked frame b d y after) (sym x) O))
+  pub same-reception : (a b : Received) (c d : List ℕ) (m n : ℕ) (x y : Bool) (after : List ℕ) → a ≡ b → c ≡ d → m ≡ n → x ≡ y
+      → ReceiveOutcome e i q s t flag marked frame b d n y after → ReceiveOutcome e i q s t flag marked frame a c m x after
+  same-reception a b c d m n x y after answers reports totals turns O = rw (answers, reports, totals, turns) O
 
   abbrev Parameters-of : ℕ → Type 0
   Parameters-of = FirstOf (receiveParameters e i q s t (length marked) (length frame))
 
   module _ (v : Verdict) (first : Parameters-of (verdictNumber v)) where
-    pub stopped-at-parameters : (p : Parameter) → v ≡ verdict.Refused p → ReceiveOutcome e i q s t flag marked frame (Refused (Parameters p)) (replicate 8 0) 0 frame
+    pub stopped-at-parameters : (p : Parameter) → v ≡ verdict.Refused p → ReceiveOutcome e i q s t flag marked frame (Refused (Parameters p)) (replicate 8 0) 0 false frame
     stopped-at-parameters p is =
         record {
           number = stopped _ (receiveParameters e i q s t (length marked) (length frame)) v p is first;
           stage = refuses;
           refused = λ n. (refl, refl, refl);
           past = λ pass fits. absurd (parameter-nonzero p (first-unique (receiveParameters e i q s t (length marked) (length frame)) (parameterNumber p) 0 refuses pass));
+          said = refl;
         }
       where
         refuses : Parameters-of (parameterNumber p)
@@ -170,36 +188,36 @@ module _ (e i q s t : ℕ) (flag : Bool) (marked frame : List ℕ) where
       tests = clear-accepted (markerParameters t (length octets)) ((λ over. omega (arith, L .tolerance)), ((λ n. n (length-take-le 4 marked four-at-least)), tt))
 
       -- the wrong bits decide
-      decided : (a : Tested) → TestOutcome t octets a → FirstOf (marker t (wrongBits octets 0) ∷ []) (testedNumber a)
+      decided : (a : Tested) → TestOutcome t octets a → FirstOf (marker t (fewestWrong octets 0) ∷ []) (testedNumber a)
       decided a T = first-goes-on (markerParameters t (length octets)) (testedNumber a) (accepted-clear (markerParameters t (length octets)) (omega arith, (omega arith, tt)) tests) (T .number)
 
-      marker-fits : (a : Tested) (wrong : ℕ) → TestOutcome t octets a → a ≡ tested.Accepted wrong → wrongBits marked 0 ≤ t
-      marker-fits a wrong T is = fits (subst (λ (x : Tested). FirstOf (marker t (wrongBits octets 0) ∷ []) (testedNumber x)) is (decided a T))
+      marker-fits : (a : Tested) (form : Form) (wrong : ℕ) → TestOutcome t octets a → a ≡ tested.Accepted form wrong → fewestWrong marked 0 ≤ t
+      marker-fits a form wrong T is = fits (subst (λ (x : Tested). FirstOf (marker t (fewestWrong octets 0) ∷ []) (testedNumber x)) is (decided a T))
         where
-          fits : FirstOf (marker t (wrongBits octets 0) ∷ []) 0 → wrongBits marked 0 ≤ t
+          fits : FirstOf (marker t (fewestWrong octets 0) ∷ []) 0 → fewestWrong marked 0 ≤ t
           fits (inl (over, z)) = absurd (omega arith)
-          fits (inr (within, z)) = omega (arith, wrong-in-front marked)
+          fits (inr (within, z)) = omega (arith, form-in-front marked .1)
 
-      marker-refuses : (a : Tested) (r : MarkerRefusal) → TestOutcome t octets a → a ≡ tested.Refused r → (r ≡ refusal.WrongBits (wrongBits marked 0)) × (t < wrongBits marked 0)
+      marker-refuses : (a : Tested) (r : MarkerRefusal) → TestOutcome t octets a → a ≡ tested.Refused r → (r ≡ refusal.WrongBits (fewestWrong marked 0)) × (t < fewestWrong marked 0)
       marker-refuses a r T is = refuses r (subst (TestOutcome t octets) is T)
         where
-          by-parameters : (p : Parameter) → FirstOf (marker t (wrongBits octets 0) ∷ []) (parameterNumber p) → ⊥
+          by-parameters : (p : Parameter) → FirstOf (marker t (fewestWrong octets 0) ∷ []) (parameterNumber p) → ⊥
           by-parameters p (inl (due, nine)) = parameter-not-nine p nine
           by-parameters p (inr (clear, zero)) = parameter-nonzero p zero
 
-          over : FirstOf (marker t (wrongBits octets 0) ∷ []) 9 → t < wrongBits marked 0
-          over (inl (due, nine)) = omega (arith, wrong-in-front marked)
+          over : FirstOf (marker t (fewestWrong octets 0) ∷ []) 9 → t < fewestWrong marked 0
+          over (inl (due, nine)) = omega (arith, form-in-front marked .1)
           over (inr (clear, zero)) = absurd (omega arith)
 
-          refuses : (r : MarkerRefusal) → TestOutcome t octets (tested.Refused r) → (r ≡ refusal.WrongBits (wrongBits marked 0)) × (t < wrongBits marked 0)
+          refuses : (r : MarkerRefusal) → TestOutcome t octets (tested.Refused r) → (r ≡ refusal.WrongBits (fewestWrong marked 0)) × (t < fewestWrong marked 0)
           refuses (refusal.Parameters p) O = absurd (by-parameters p (decided (tested.Refused (refusal.Parameters p)) O))
           refuses (refusal.WrongBits n) O = (
-            ap refusal.WrongBits (O .value (inr refl) ∙ wrong-in-front marked),
+            ap refusal.WrongBits (O .value (inr refl) ∙ form-in-front marked .1),
             over (decided (tested.Refused (refusal.WrongBits n)) O),
           )
 
       pub stopped-at-marker : (a : Tested) (r : MarkerRefusal) → TestOutcome t octets a → a ≡ tested.Refused r
-          → ReceiveOutcome e i q s t flag marked frame (Refused (Marker r)) (replicate 8 0) 0 frame
+          → ReceiveOutcome e i q s t flag marked frame (Refused (Marker r)) (replicate 8 0) 0 false frame
       stopped-at-marker a r T is =
           record {
             number = first-passes (receiveParameters e i q s t (length marked) (length frame)) (markerNumber r) (receive-numbers e i q s t (length marked) (length frame)) f
@@ -207,46 +225,58 @@ module _ (e i q s t : ℕ) (flag : Bool) (marked frame : List ℕ) where
             stage = found .0;
             refused = λ n. (refl, refl, refl);
             past = λ pass fits. absurd (omega (arith, found .1));
+            said = refl;
           }
         where
-          found : (r ≡ refusal.WrongBits (wrongBits marked 0)) × (t < wrongBits marked 0)
+          found : (r ≡ refusal.WrongBits (fewestWrong marked 0)) × (t < fewestWrong marked 0)
           found = marker-refuses a r T is
 
       -- past the marker, decode's own checks pass: its words decide
-      passes : FirstOf (decodeParameters e i q s (length (opened flag marked)) (length frame)) 0
+      passes : FirstOf (decodeParameters e i q s (length (blockIn flag marked)) (length frame)) 0
       passes =
-          decode-passes e i q s t (length marked) (length frame) (length (opened flag marked))
-          (omega (arith, randomised-length flag (drop 4 marked), length-drop 4 marked, four-at-least)) f
+          decode-passes e i q s t (length marked) (length frame) (length (blockIn flag marked))
+          (omega (arith, opened-length (complemented (formAt marked 0)) flag (drop 4 marked), length-drop 4 marked, four-at-least)) f
 
-      words-decide : (n : ℕ) → Order e i q s (opened flag marked) frame n → FirstOf (word (SomeLost e i q s (opened flag marked)) ∷ []) n
+      words-decide : (n : ℕ) → Order e i q s (blockIn flag marked) frame n → FirstOf (word (SomeLost e i q s (blockIn flag marked)) ∷ []) n
       words-decide n =
-          first-goes-on (decodeParameters e i q s (length (opened flag marked)) (length frame)) n
-          (accepted-clear (decodeParameters e i q s (length (opened flag marked)) (length frame)) (decode-numbers e i q s (length (opened flag marked)) (length frame)) passes)
+          first-goes-on (decodeParameters e i q s (length (blockIn flag marked)) (length frame)) n
+          (accepted-clear (decodeParameters e i q s (length (blockIn flag marked)) (length frame)) (decode-numbers e i q s (length (blockIn flag marked)) (length frame)) passes)
 
-      word-refuses : (d : Decoded) → FirstOf (word (SomeLost e i q s (opened flag marked)) ∷ []) (decodedNumber d) → StageRefuses e i q s t marked frame (wordStage d)
+      word-refuses : (d : Decoded) → FirstOf (word (SomeLost e i q s (blockIn flag marked)) ∷ []) (decodedNumber d) → StageRefuses e i q s t marked frame (wordStage d)
       word-refuses decoded.Delivered z = tt
       word-refuses (decoded.Refused (lost.Parameters p)) (inl (due, ten)) = absurd (parameter-not-ten p ten)
       word-refuses (decoded.Refused (lost.Parameters p)) (inr (clear, zero)) = absurd (parameter-nonzero p zero)
       word-refuses (decoded.Refused (lost.NoCodeword w)) z = (w, refl)
 
-      pub as-decoded : (a : Tested) (wrong : ℕ) → TestOutcome t octets a → a ≡ tested.Accepted wrong → (answer : Received) (counts : List ℕ) (total : ℕ) (after : List ℕ)
-          → AsDecode e i q s (randomisedIf flag part) frame answer counts total after → ReceiveOutcome e i q s t flag marked frame answer counts total after
-      as-decoded a wrong T is answer counts total after P =
-          same-reception answer (wordStage (D .answered)) counts counts total total after (D .same) refl refl
+      pub as-decoded : (a : Tested) (form : Form) (wrong : ℕ) → TestOutcome t octets a → a ≡ tested.Accepted form wrong → (turned : Bool) → turned ≡ complemented form
+          → (answer : Received) (counts : List ℕ) (total : ℕ) (said : Bool) (after : List ℕ)
+          → Part e i q s (openedIf turned flag part) frame turned answer counts total said after → ReceiveOutcome e i q s t flag marked frame answer counts total said after
+      as-decoded a form wrong T is turned turns answer counts total said after P =
+          same-reception answer (wordStage (D .answered)) counts counts total total said (saidInverted (wordStage (D .answered)) (complemented (formAt marked 0))) after
+          (D .same) refl refl (P .1 ∙ ap₂ saidInverted (D .same) turned-is)
           (record {
             number = subst (FirstOf order) (sym (stage-number (D .answered)))
                 (first-passes (receiveParameters e i q s t (length marked) (length frame)) (decodedNumber (D .answered)) (receive-numbers e i q s t (length marked) (length frame)) f
-                (inr ((λ over. omega (arith, marker-fits a wrong T is)), decide)));
+                (inr ((λ over. omega (arith, marker-fits a form wrong T is)), decide)));
             stage = word-refuses (D .answered) decide;
             refused = λ n. D .outcome .refused (λ z. n (stage-number (D .answered) ∙ z));
             past = λ pass fits. record { answered = D .answered; same = refl; outcome = D .outcome };
+            said = refl;
           })
         where
-          D : AsDecode e i q s (opened flag marked) frame answer counts total after
-          D = subst (λ (list : List ℕ). AsDecode e i q s (randomisedIf flag list) frame answer counts total after) part-is P
+          named : (b : Tested) → b ≡ tested.Accepted form wrong → TestOutcome t octets b → form ≡ formAt octets 0
+          named b same O = (rw same at O) .form
+
+          turned-is : turned ≡ complemented (formAt marked 0)
+          turned-is = turns ∙ ap complemented (named a is T ∙ form-in-front marked .0)
+
+          D : AsDecode e i q s (blockIn flag marked) frame answer counts total after
+          D =
+              subst (λ (list : List ℕ). AsDecode e i q s list frame answer counts total after)
+              (ap₂ (λ (x : Bool) (list : List ℕ). openedIf x flag list) turned-is part-is) (P .0)
 
           order : List Check
-          order = receiveOrder e i q s t (length marked) (length frame) (wrongBits marked 0) (SomeLost e i q s (opened flag marked))
+          order = receiveOrder e i q s t (length marked) (length frame) (fewestWrong marked 0) (SomeLost e i q s (blockIn flag marked))
 
-          decide : FirstOf (word (SomeLost e i q s (opened flag marked)) ∷ []) (decodedNumber (D .answered))
+          decide : FirstOf (word (SomeLost e i q s (blockIn flag marked)) ∷ []) (decodedNumber (D .answered))
           decide = words-decide (decodedNumber (D .answered)) (D .outcome .number)

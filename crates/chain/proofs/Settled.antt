@@ -16,7 +16,7 @@ use Rattle.refusals.specs.declared.MarkerRefusal.{MarkerRefusal}
 use Rattle.refusals.proofs.Orders.{first-unique}
 use Rattle.refusals.proofs.Verdicts.{parameter-not-nine, parameter-not-ten}
 use Rattle.refusals.proofs.Settled.{parameter-known, transmit-parameters-settled}
-use Rattle.marker.specs.Place.{marker, wrongBits}
+use Rattle.marker.specs.Place.{marker, formAt, fewestWrong}
 use Rattle.reed_solomon.proofs.CodedBlocks.{EncodeLegal, encode-legal}
 use Rattle.reed_solomon.proofs.Settled.{coded-unique}
 use Rattle.reed_solomon.proofs.Deliverable.{SomeLost}
@@ -24,7 +24,7 @@ use Rattle.reed_solomon.proofs.DecodeSettled.{decode-settled}
 use Rattle.chain.specs.declared.Stage.the-variants.{Parameters, Marker, Word}
 use Rattle.chain.specs.declared.Received.{Received}
 use Rattle.chain.specs.declared.Received.the-variants.{Delivered, Refused}
-use Rattle.chain.specs.Outcome.{randomisedIf, opened, receivedNumber, wordStage, Transmitted, TransmitOutcome, StageRefuses, AsDecode, ReceiveOutcome}
+use Rattle.chain.specs.Outcome.{randomisedIf, complemented, blockIn, saidInverted, receivedNumber, wordStage, Transmitted, TransmitOutcome, StageRefuses, AsDecode, ReceiveOutcome}
 use Rattle.chain.proofs.Opening.{randomised-length}
 use Rattle.chain.proofs.Transmissions.{block-passes}
 use Rattle.chain.proofs.Stages.{decoded-past}
@@ -93,23 +93,24 @@ module _ (e i q s t : ℕ) (flag : Bool) (marked before : List ℕ) where
   same-refusal (Refused (Marker r)) (Refused (Marker o)) x y n zero ten = ap (λ (u : MarkerRefusal). Refused (Marker u)) (x ∙ sym y)
   same-refusal (Refused (Marker r)) (Refused (Word o)) x y n zero ten = absurd (ten (n ∙ ap wordNumber (y .1)))
 
-  module _ (a b : Received) (c d : List ℕ) (m n : ℕ) (f g : List ℕ) (A : ReceiveOutcome e i q s t flag marked before a c m f) (B : ReceiveOutcome e i q s t flag marked before b d n g) where
+  module _ (a b : Received) (c d : List ℕ) (m n : ℕ) (x y : Bool) (f g : List ℕ) (A : ReceiveOutcome e i q s t flag marked before a c m x f)
+      (B : ReceiveOutcome e i q s t flag marked before b d n y g) where
     abbrev Same : Type 0
     Same = (a ≡ b) × (c ≡ d) × (m ≡ n) × (f ≡ g)
 
     numbers : receivedNumber a ≡ receivedNumber b
     numbers =
-        first-unique (receiveOrder e i q s t (length marked) (length before) (wrongBits marked 0) (SomeLost e i q s (opened flag marked)))
+        first-unique (receiveOrder e i q s t (length marked) (length before) (fewestWrong marked 0) (SomeLost e i q s (blockIn flag marked)))
         (receivedNumber a) (receivedNumber b) (A .number) (B .number)
 
-    as-decode : AsDecode e i q s (opened flag marked) before a c m f → AsDecode e i q s (opened flag marked) before b d n g → Same
+    as-decode : AsDecode e i q s (blockIn flag marked) before a c m f → AsDecode e i q s (blockIn flag marked) before b d n g → Same
     as-decode D E =
         let same : (D .answered ≡ E .answered) × (c ≡ d) × (m ≡ n) × (f ≡ g) =
-        decode-settled e i q s (opened flag marked) before (D .answered) (E .answered) c d m n f g (D .outcome) (E .outcome) in
+        decode-settled e i q s (blockIn flag marked) before (D .answered) (E .answered) c d m n f g (D .outcome) (E .outcome) in
         (D .same ∙ ap wordStage (same .0) ∙ sym (E .same), same .1, same .2, same .3)
 
     both-past : (receivedNumber a ≡ 0) ⊎ (receivedNumber a ≡ 10) → (receivedNumber b ≡ 0) ⊎ (receivedNumber b ≡ 10) → Same
-    both-past x y = as-decode (decoded-past e i q s t flag marked before a c m f A x) (decoded-past e i q s t flag marked before b d n g B y)
+    both-past u v = as-decode (decoded-past e i q s t flag marked before a c m x f A u) (decoded-past e i q s t flag marked before b d n y g B v)
 
     both-refused : receivedNumber a ≢ 0 → receivedNumber a ≢ 10 → Same
     both-refused zero ten =
@@ -117,8 +118,8 @@ module _ (e i q s t : ℕ) (flag : Bool) (marked before : List ℕ) where
         let v : (g ≡ before) × (d ≡ replicate 8 0) × (n ≡ 0) = B .refused (λ z. zero (numbers ∙ z)) in
         (same-refusal a b (A .stage) (B .stage) numbers zero ten, u .1 ∙ sym (v .1), u .2 ∙ sym (v .2), u .0 ∙ sym (v .0))
 
-    pub receive-settled : (a ≡ b) × (c ≡ d) × (m ≡ n) × (f ≡ g)
-    receive-settled =
+    all-but-said : Same
+    all-but-said =
         elim (ℕ-discrete (receivedNumber a) 0) [
           | yes z ↦ both-past (inl z) (inl (sym numbers ∙ z))
           | no zero ↦ elim (ℕ-discrete (receivedNumber a) 10) [
@@ -126,3 +127,9 @@ module _ (e i q s t : ℕ) (flag : Bool) (marked before : List ℕ) where
             | no ten ↦ both-refused zero ten
           ]
         ]
+
+    pub receive-settled : (a ≡ b) × (c ≡ d) × (m ≡ n) × (x ≡ y) × (f ≡ g)
+    receive-settled =
+        let same : Same = all-but-said in
+        let turned : x ≡ y = A .said ∙ ap (λ (answer : Received). saidInverted answer (complemented (formAt marked 0))) (same .0) ∙ sym (B .said) in
+        (same .0, same .1, same .2, turned, same .3)

@@ -13,7 +13,7 @@ use Rattle.refusals.specs.Calls.{receiveParameters, receiveOrder}
 use Rattle.refusals.specs.declared.WordRefusal.{WordRefusal}
 use Rattle.refusals.proofs.Orders.{Begins}
 use Rattle.refusals.proofs.Verdicts.{parameter-nonzero}
-use Rattle.marker.specs.Place.{wrongBits}
+use Rattle.marker.specs.Place.{fewestWrong}
 use Rattle.reed_solomon.specs.declared.Decoded.{Decoded}
 use Rattle.reed_solomon.specs.declared.Decoded.the-variants as decoded
 use Rattle.reed_solomon.specs.Outcome.{LowestLost, decodedNumber, decodedValue}
@@ -21,7 +21,7 @@ use Rattle.reed_solomon.proofs.Deliverable.{SomeLost}
 use Rattle.chain.specs.declared.Stage.the-variants.{Parameters, Marker, Word}
 use Rattle.chain.specs.declared.Received.{Received}
 use Rattle.chain.specs.declared.Received.the-variants.{Delivered, Refused}
-use Rattle.chain.specs.Outcome.{opened, receivedNumber, wordStage, AsDecode, ReceiveOutcome}
+use Rattle.chain.specs.Outcome.{blockIn, receivedNumber, wordStage, AsDecode, ReceiveOutcome}
 
 -- No check of the list has the number n.
 abbrev pub Without : ℕ → List Check → Type 0
@@ -44,20 +44,20 @@ first-listed [] n z p = absurd (z p)
 first-listed (check ∷ later) n z (inl due) = inl (due .1)
 first-listed (check ∷ later) n z (inr p) = inr (first-listed later n z (p .1))
 
--- Parameters only with 1 to 6 and 8, here in the order of the checks; the marker only with 9 and its wrong bits; a word only with 10,
+-- Parameters only with 1 to 6 and 8, here in the order of the checks; the marker only with 9 and its fewest wrong bits; a word only with 10,
 -- the lowest that is lost.
 abbrev pub StageNumbers : ℕ → ℕ → ℕ → ℕ → Bool → List ℕ → Received → Type 0
 StageNumbers e i q s flag marked Delivered = Unit
 StageNumbers e i q s flag marked (Refused (Parameters p)) = OneOf (1 ∷ 2 ∷ 3 ∷ 4 ∷ 8 ∷ 5 ∷ 6 ∷ []) (parameterNumber p)
-StageNumbers e i q s flag marked (Refused (Marker r)) = (markerNumber r ≡ 9) × (markerValue r ≡ wrongBits marked 0)
-StageNumbers e i q s flag marked (Refused (Word r)) = (wordNumber r ≡ 10) × LowestLost e i q s (opened flag marked) (wordValue r)
+StageNumbers e i q s flag marked (Refused (Marker r)) = (markerNumber r ≡ 9) × (markerValue r ≡ fewestWrong marked 0)
+StageNumbers e i q s flag marked (Refused (Word r)) = (wordNumber r ≡ 10) × LowestLost e i q s (blockIn flag marked) (wordValue r)
 
 module _ (e i q s t : ℕ) (flag : Bool) (marked before : List ℕ) where
-  module _ (n : ℕ) (first : FirstOf (receiveOrder e i q s t (length marked) (length before) (wrongBits marked 0) (SomeLost e i q s (opened flag marked))) n) where
-    abbrev Passed : Type 0
-    Passed = FirstOf (receiveParameters e i q s t (length marked) (length before)) 0 × (wrongBits marked 0 ≤ t)
+  module _ (n : ℕ) (first : FirstOf (receiveOrder e i q s t (length marked) (length before) (fewestWrong marked 0) (SomeLost e i q s (blockIn flag marked))) n) where
+    abbrev pub Passed : Type 0
+    Passed = FirstOf (receiveParameters e i q s t (length marked) (length before)) 0 × (fewestWrong marked 0 ≤ t)
 
-    after : (n < 1) ⊎ (n ≡ 10) → Passed
+    pub after : (n < 1) ⊎ (n ≡ 10) → Passed
     after far = let both : FirstOf (receiveParameters e i q s t (length marked) (length before)) 0 × _ = past-front (receiveParameters e i q s t (length marked) (length before)) n (others far) first in
         (both .0, within (both .1))
       where
@@ -69,13 +69,13 @@ module _ (e i q s t : ℕ) (flag : Bool) (marked before : List ℕ) where
         nine (inl h) x = omega arith
         nine (inr h) x = omega arith
 
-        within : {rest : Type 0} → ((t < wrongBits marked 0) × (n ≡ 9)) ⊎ ((t < wrongBits marked 0 → ⊥) × rest) → wrongBits marked 0 ≤ t
+        within : {rest : Type 0} → ((t < fewestWrong marked 0) × (n ≡ 9)) ⊎ ((t < fewestWrong marked 0 → ⊥) × rest) → fewestWrong marked 0 ≤ t
         within (inl due) = absurd (nine far (due .1))
         within (inr clear) = omega (arith, clear .0)
 
-  module _ (answer : Received) (counts : List ℕ) (total : ℕ) (frame : List ℕ) (R : ReceiveOutcome e i q s t flag marked before answer counts total frame) where
+  module _ (answer : Received) (counts : List ℕ) (total : ℕ) (turned : Bool) (frame : List ℕ) (R : ReceiveOutcome e i q s t flag marked before answer counts total turned frame) where
     -- An answer of 0 or 10 came past the parameters and the marker, so it is decode's.
-    pub decoded-past : (receivedNumber answer ≡ 0) ⊎ (receivedNumber answer ≡ 10) → AsDecode e i q s (opened flag marked) before answer counts total frame
+    pub decoded-past : (receivedNumber answer ≡ 0) ⊎ (receivedNumber answer ≡ 10) → AsDecode e i q s (blockIn flag marked) before answer counts total frame
     decoded-past (inl z) = let p : Passed (receivedNumber answer) (R .number) = after (receivedNumber answer) (R .number) (inl (omega arith)) in R .past (p .0) (p .1)
     decoded-past (inr z) = let p : Passed (receivedNumber answer) (R .number) = after (receivedNumber answer) (R .number) (inr z) in R .past (p .0) (p .1)
 
@@ -91,21 +91,21 @@ module _ (e i q s t : ℕ) (flag : Bool) (marked before : List ℕ) where
   same-refusal r decoded.Delivered is = let z : _≡_ {A = ℕ} 0 1 = cc in absurd (omega arith)
   same-refusal r (decoded.Refused o) is = let same : r ≡ o = cc in ap decoded.Refused (sym same)
 
-  pub receive-stages : (answer : Received) (counts : List ℕ) (total : ℕ) (frame : List ℕ) → ReceiveOutcome e i q s t flag marked before answer counts total frame
+  pub receive-stages : (answer : Received) (counts : List ℕ) (total : ℕ) (turned : Bool) (frame : List ℕ) → ReceiveOutcome e i q s t flag marked before answer counts total turned frame
       → StageNumbers e i q s flag marked answer
-  receive-stages Delivered counts total frame R = tt
-  receive-stages (Refused (Parameters p)) counts total frame R =
+  receive-stages Delivered counts total turned frame R = tt
+  receive-stages (Refused (Parameters p)) counts total turned frame R =
       first-listed (receiveParameters e i q s t (length marked) (length before)) (parameterNumber p) (parameter-nonzero p) (R .stage)
-  receive-stages (Refused (Marker r)) counts total frame R = (ap markerNumber (R .stage), ap markerValue (R .stage))
-  receive-stages (Refused (Word r)) counts total frame R = (ten, lowest (D .answered) (same-refusal r (D .answered) (D .same)) (D .outcome .word))
+  receive-stages (Refused (Marker r)) counts total turned frame R = (ap markerNumber (R .stage), ap markerValue (R .stage))
+  receive-stages (Refused (Word r)) counts total turned frame R = (ten, lowest (D .answered) (same-refusal r (D .answered) (D .same)) (D .outcome .word))
     where
       ten : wordNumber r ≡ 10
       ten = ap wordNumber (R .stage .1)
 
-      D : AsDecode e i q s (opened flag marked) before (Refused (Word r)) counts total frame
-      D = decoded-past (Refused (Word r)) counts total frame R (inr ten)
+      D : AsDecode e i q s (blockIn flag marked) before (Refused (Word r)) counts total frame
+      D = decoded-past (Refused (Word r)) counts total turned frame R (inr ten)
 
-      lowest : (d : Decoded) → d ≡ decoded.Refused r → (decodedNumber d ≡ 10 → LowestLost e i q s (opened flag marked) (decodedValue d))
-          → LowestLost e i q s (opened flag marked) (wordValue r)
+      lowest : (d : Decoded) → d ≡ decoded.Refused r → (decodedNumber d ≡ 10 → LowestLost e i q s (blockIn flag marked) (decodedValue d))
+          → LowestLost e i q s (blockIn flag marked) (wordValue r)
       lowest d is word =
-          subst (λ (x : Decoded). LowestLost e i q s (opened flag marked) (decodedValue x)) is (word (ap decodedNumber is ∙ ten))
+          subst (λ (x : Decoded). LowestLost e i q s (blockIn flag marked) (decodedValue x)) is (word (ap decodedNumber is ∙ ten))

@@ -22,9 +22,10 @@ pub enum Received {
     Refused(Stage),
 }
 
-// The answer, with decode's report, zero on a refusal.
+// The answer, with decode's report, zero on a refusal, and whether a delivered block was inverted.
 pub struct Reception {
     pub answer: Received,
     pub total: u32,
     pub counts: [u8; 8],
+    pub inverted: bool,
 }

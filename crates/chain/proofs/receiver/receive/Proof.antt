@@ -17,8 +17,9 @@ refused-requires c κs = search needs
 
 returns : tie.Need-returns
 returns c =
-    same-reception _ _ _ _ _ _ _ _ _ _ _ _ _ _ _ (c .refused .ensures .0) (c .refused .ensures .2) (c .refused .ensures .1)
-    (stopped-at-parameters _ _ _ _ _ _ _ _ (c .before .before .before .before .receive-parameters .result) (c .before .before .before .before .receive-parameters .ensures) _ (c .before .before .verdict .given .1))
+    let a = c .before .before .before .before .before .before .before .args in
+    same-reception (a .e) (a .depth) (a .fill) (a .s) (a .tolerance) (a .randomised) (a .marked .now) (a .frame .now) _ _ _ _ _ _ _ _ _ (c .refused .ensures .0) (c .refused .ensures .2) (c .refused .ensures .1) (c .refused .ensures .3)
+    (stopped-at-parameters (a .e) (a .depth) (a .fill) (a .s) (a .tolerance) (a .randomised) (a .marked .now) (a .frame .now) (c .before .before .before .before .receive-parameters .result) (c .before .before .before .before .receive-parameters .ensures) _ (c .before .before .verdict .given .1))
 
 enum-told : tie.Need-enum-told
 enum-told c = search needs
@@ -47,22 +48,24 @@ refused-requires-2 c κs = search needs
 returns-2 : tie.Need-returns-2
 returns-2 c =
     let a = c .before .before .before .before .before .before .before .before .before .before .before .args in
-    same-reception (a .e) (a .depth) (a .fill) (a .s) (a .tolerance) (a .randomised) (a .marked .now) (a .frame .now) _ _ _ _ _ _ _ (c .refused2 .ensures .0) (c .refused2 .ensures .2) (c .refused2 .ensures .1)
+    same-reception (a .e) (a .depth) (a .fill) (a .s) (a .tolerance) (a .randomised) (a .marked .now) (a .frame .now) _ _ _ _ _ _ _ _ _ (c .refused2 .ensures .0) (c .refused2 .ensures .2) (c .refused2 .ensures .1) (c .refused2 .ensures .3)
     (stopped-at-marker (a .e) (a .depth) (a .fill) (a .s) (a .tolerance) (a .randomised) (a .marked .now) (a .frame .now) (c .before .before .before .before .before .before .before .before .receive-parameters .result) (c .before .before .before .before .before .before .before .before .receive-parameters .ensures) (c .before .before .before .before .before .before .enum-told .given .1) _ _ (c .before .before .before .before .test .ensures) (c .before .before .tested .given .1))
 
-enum-told-2 : tie.Need-enum-told-2
-enum-told-2 c = search needs
+enum-known-tested-2 : tie.Need-enum-known-tested-2
+enum-known-tested-2 c = search needs
+
+is-complement-requires : tie.Need-is-complement-requires
+is-complement-requires c κs = search needs
 
 sub-decode-part : tie.Need-sub-decode-part
 sub-decode-part c =
-    let a = c .before .before .before .before .before .before .before .before .before .args in
-    let fits : 4 ≤ length (a .marked .now) = four-at-least (a .e) (a .depth) (a .fill) (a .s) (a .tolerance) (a .randomised) (a .marked .now) (a .frame .now) (c .before .before .before .before .before .before .receive-parameters .result) (c .before .before .before .before .before .before .receive-parameters .ensures) (c .before .before .before .before .enum-told .given .1) in
-    search needs
+    let a = c .before .before .before .before .before .before .before .before .before .before .before .args in
+    four-at-least (a .e) (a .depth) (a .fill) (a .s) (a .tolerance) (a .randomised) (a .marked .now) (a .frame .now) (c .before .before .before .before .before .before .before .before .receive-parameters .result) (c .before .before .before .before .before .before .before .before .receive-parameters .ensures) (c .before .before .before .before .before .before .enum-told .given .1)
 
 part-decode-part-start : tie.Need-part-decode-part-start
 part-decode-part-start c =
-    let a = c .before .before .before .before .before .before .before .before .before .args in
-    let fits : 4 ≤ length (a .marked .now) = four-at-least (a .e) (a .depth) (a .fill) (a .s) (a .tolerance) (a .randomised) (a .marked .now) (a .frame .now) (c .before .before .before .before .before .before .receive-parameters .result) (c .before .before .before .before .before .before .receive-parameters .ensures) (c .before .before .before .before .enum-told .given .1) in
+    let a = c .before .before .before .before .before .before .before .before .before .before .before .args in
+    let fits : 4 ≤ length (a .marked .now) = four-at-least (a .e) (a .depth) (a .fill) (a .s) (a .tolerance) (a .randomised) (a .marked .now) (a .frame .now) (c .before .before .before .before .before .before .before .before .receive-parameters .result) (c .before .before .before .before .before .before .before .before .receive-parameters .ensures) (c .before .before .before .before .before .before .enum-told .given .1) in
     search needs
 
 part-decode-part-end : tie.Need-part-decode-part-end
@@ -70,16 +73,20 @@ part-decode-part-end c = search needs
 
 decode-part-requires : tie.Need-decode-part-requires
 decode-part-requires c κs =
-    let a = c .before .before .before .before .before .before .before .before .before .before .before .args in
-    part-within (a .e) (a .depth) (a .fill) (a .s) (a .tolerance) (a .randomised) (a .marked .now) (a .frame .now) (c .before .before .before .before .before .before .before .before .receive-parameters .result) (c .before .before .before .before .before .before .before .before .receive-parameters .ensures) (c .before .before .before .before .before .before .enum-told .given .1)
+    let a = c .before .before .before .before .before .before .before .before .before .before .before .before .before .args in
+    part-within (a .e) (a .depth) (a .fill) (a .s) (a .tolerance) (a .randomised) (a .marked .now) (a .frame .now) (c .before .before .before .before .before .before .before .before .before .before .receive-parameters .result) (c .before .before .before .before .before .before .before .before .before .before .receive-parameters .ensures) (c .before .before .before .before .before .before .before .before .enum-told .given .1)
 
 same-length : tie.Need-same-length
 same-length c = search needs
 
 returns-3 : tie.Need-returns-3
 returns-3 c =
-    let a = c .before .before .before .before .before .before .before .before .before .before .before .before .before .before .args in
-    as-decoded (a .e) (a .depth) (a .fill) (a .s) (a .tolerance) (a .randomised) (a .marked .now) (a .frame .now) (c .before .before .before .before .before .before .before .before .before .before .before .receive-parameters .result) (c .before .before .before .before .before .before .before .before .before .before .before .receive-parameters .ensures) (c .before .before .before .before .before .before .before .before .before .enum-told .given .1) _ _ (c .before .before .before .before .before .before .before .test .ensures) (c .before .before .before .before .before .enum-told2 .given .1) _ _ _ _ (c .before .before .decode-part .ensures)
+    let form-known = c .before .before .before .before .before in
+    let tested = form-known .before .before .before .before in
+    let checked = tested .before .before .before .before in
+    let a = checked .before .before .before .args in
+    as-decoded (a .e) (a .depth) (a .fill) (a .s) (a .tolerance) (a .randomised) (a .marked .now) (a .frame .now) (checked .receive-parameters .result) (checked .receive-parameters .ensures) (tested .before .before .enum-told .given .1)
+    _ _ _ (tested .test .ensures) (form-known .before .before .tested2 .given .1) _ (form-known .is-complement .ensures) _ _ _ _ _ (c .before .before .decode-part .ensures)
 
 pub receive-spec : {M : Type 1} → statement M
 receive-spec =
@@ -96,11 +103,12 @@ receive-spec =
     test-requires
     enum-known-tested
     refused-requires-2
-    returns-2
-    enum-told-2
+    enum-known-tested-2
+    is-complement-requires
     sub-decode-part
     part-decode-part-start
     part-decode-part-end
     decode-part-requires
+    returns-2
     same-length
     returns-3)
