@@ -17,6 +17,7 @@ use Rattle.reed_solomon.specs.declared.Decoded.{Decoded}
 use Rattle.reed_solomon.specs.declared.Decoded.the-variants as decoded
 use Rattle.reed_solomon.specs.Outcome.{DecodeOutcome, decodedNumber, decodedValue}
 use Rattle.reed_solomon.proofs.Eight.{eight}
+use Rattle.marker.specs.declared.Form.{Form}
 use Rattle.marker.specs.declared.Tested.{Tested}
 use Rattle.marker.specs.declared.Tested.the-variants as tested
 use Rattle.marker.specs.declared.Searched.{Searched}
@@ -27,7 +28,7 @@ use Rattle.chain.specs.declared.Stage.the-variants as stage
 use Rattle.chain.specs.declared.Received.{Received}
 use Rattle.chain.specs.declared.Received.the-variants as received
 use Rattle.chain.specs.Outcome.{ReceiveOutcome, receivedNumber, receivedValue}
-use Rattle.ironsimmer.specs.Exported.{code, searchReport, Lent, DecodingCall, DecodeCall, MarkerCall, Reported}
+use Rattle.ironsimmer.specs.Exported.{code, truth, formNumber, decodeListed, receiveListed, testReport, searchReport, Lent, DecodingCall, DecodeCall, MarkerCall, Reported}
 
 -- ---- one number for an answer
 
@@ -69,15 +70,16 @@ module _ {A : Type 0} where
 
 -- ---- the calls
 
-module _ (tolerance : ℕ) (octets : List ℕ) (before : ℕ) {answer : Tested} where
-  pub marker-accepted : (bits : ℕ) → answer ≡ tested.Accepted bits → TestOutcome tolerance octets answer → MarkerCall tolerance octets before 0 bits
-  marker-accepted bits e o =
+module _ (tolerance : ℕ) (octets before : List ℕ) {answer : Tested} where
+  pub marker-accepted : (form : Form) (wrong number : ℕ) → answer ≡ tested.Accepted form wrong → TestOutcome tolerance octets answer → number ≡ formNumber form
+      → MarkerCall tolerance octets before 0 (number ∷ wrong ∷ [])
+  marker-accepted form wrong number e o is =
       record {
-        tested = tested.Accepted bits;
+        tested = tested.Accepted form wrong;
         outcome = subst (TestOutcome tolerance octets) e o;
         coded = λ n. absurd (n refl);
         accepted = λ z. refl;
-        lent = lent-accepted 0 bits before bits refl refl;
+        lent = lent-accepted 0 (testReport (tested.Accepted form wrong)) before (number ∷ wrong ∷ []) refl (ap {B = List ℕ} (λ (n : ℕ). n ∷ wrong ∷ []) is);
       }
 
   pub marker-refused : (r : MarkerRefusal) (n : ℕ) → answer ≡ tested.Refused r → TestOutcome tolerance octets answer → n ≡ markerCode r
@@ -88,59 +90,65 @@ module _ (tolerance : ℕ) (octets : List ℕ) (before : ℕ) {answer : Tested} 
         outcome = subst (TestOutcome tolerance octets) e o;
         coded = λ z. c;
         accepted = λ z. absurd (marker-nonzero r z);
-        lent = lent-refused (markerNumber r) (markerValue r) before (marker-nonzero r);
+        lent = lent-refused (markerNumber r) [] before (marker-nonzero r);
       }
 
 -- Decode and receive, over what is permitted of their answers.
-module _ {Answer : Type 0} (numberOf valueOf : Answer → ℕ) (Permits : Answer → List ℕ → ℕ → List ℕ → Type 0) (before counts : List ℕ) (total : ℕ)
-    (after : List ℕ) (answer : Answer) (permitted : Permits answer counts total after) where
-  decoding-delivered : (report : List ℕ) → numberOf answer ≡ 0 → valueOf answer ≡ 0 → report ≡ counts ++ (total ∷ [])
-      → DecodingCall numberOf valueOf Permits before 0 after report
+module _ {Answer Report : Type 0} (numberOf valueOf : Answer → ℕ) (listed : Report → List ℕ) (Permits : Answer → Report → List ℕ → Type 0) (before : List ℕ)
+    (reported : Report) (after : List ℕ) (answer : Answer) (permitted : Permits answer reported after) where
+  decoding-delivered : (report : List ℕ) → numberOf answer ≡ 0 → valueOf answer ≡ 0 → report ≡ listed reported
+      → DecodingCall numberOf valueOf listed Permits before 0 after report
   decoding-delivered report z v r =
       record {
         answered = answer;
-        counts = counts;
-        total = total;
+        reported = reported;
         outcome = permitted;
         coded = omega arith;
-        lent = lent-accepted (numberOf answer) (counts ++ (total ∷ [])) before report z r;
+        lent = lent-accepted (numberOf answer) (listed reported) before report z r;
       }
 
-  decoding-refused : (n : ℕ) → numberOf answer ≢ 0 → n ≡ code (numberOf answer) (valueOf answer) → DecodingCall numberOf valueOf Permits before n after before
+  decoding-refused : (n : ℕ) → numberOf answer ≢ 0 → n ≡ code (numberOf answer) (valueOf answer) → DecodingCall numberOf valueOf listed Permits before n after before
   decoding-refused n z c =
       record {
         answered = answer;
-        counts = counts;
-        total = total;
+        reported = reported;
         outcome = permitted;
         coded = c;
-        lent = lent-refused (numberOf answer) (counts ++ (total ∷ [])) before z;
+        lent = lent-refused (numberOf answer) (listed reported) before z;
       }
 
-module _ (e i q s : ℕ) (block before reported counts : List ℕ) (total : ℕ) (after : List ℕ) {answer : Decoded} where
-  pub decode-delivered : (report : List ℕ) → answer ≡ decoded.Delivered → DecodeOutcome e i q s block before answer counts total after → report ≡ counts ++ (total ∷ [])
-      → DecodeCall e i q s block before reported 0 after report
-  decode-delivered report known o r =
-      decoding-delivered decodedNumber decodedValue (DecodeOutcome e i q s block before) reported counts total after answer o report (ap decodedNumber known) (ap decodedValue known) r
+module _ (e i q s : ℕ) (block before reported counts : List ℕ) (total : ℕ) (after : List ℕ) where
+  abbrev DecodePermits : Decoded → List ℕ × ℕ → List ℕ → Type 0
+  DecodePermits a r = DecodeOutcome e i q s block before a (r .0) (r .1)
 
-  pub decode-refused : (r : WordRefusal) (n : ℕ) → answer ≡ decoded.Refused r → DecodeOutcome e i q s block before answer counts total after → n ≡ wordCode r
-      → DecodeCall e i q s block before reported n after reported
-  decode-refused r n known o c =
-      decoding-refused decodedNumber decodedValue (DecodeOutcome e i q s block before) reported counts total after answer o n (λ z. word-nonzero r (ap decodedNumber (sym known) ∙ z))
-      (known-answer (λ (a : Decoded). code (decodedNumber a) (decodedValue a)) known c)
+  module _ {answer : Decoded} where
+    pub decode-delivered : (report : List ℕ) → answer ≡ decoded.Delivered → DecodeOutcome e i q s block before answer counts total after → report ≡ counts ++ (total ∷ [])
+        → DecodeCall e i q s block before reported 0 after report
+    decode-delivered report known o r =
+        decoding-delivered decodedNumber decodedValue decodeListed DecodePermits reported (counts, total) after answer o report (ap decodedNumber known) (ap decodedValue known) r
 
-module _ (e i q s t : ℕ) (flag : Bool) (marked before reported counts : List ℕ) (total : ℕ) (after : List ℕ) {answer : Received} where
-  pub receive-delivered : (report : List ℕ) → answer ≡ received.Delivered → ReceiveOutcome e i q s t flag marked before answer counts total after
-      → report ≡ counts ++ (total ∷ []) → DecodingCall receivedNumber receivedValue (ReceiveOutcome e i q s t flag marked before) reported 0 after report
-  receive-delivered report known o r =
-      decoding-delivered receivedNumber receivedValue (ReceiveOutcome e i q s t flag marked before) reported counts total after answer o report
-      (ap receivedNumber known) (ap receivedValue known) r
+    pub decode-refused : (r : WordRefusal) (n : ℕ) → answer ≡ decoded.Refused r → DecodeOutcome e i q s block before answer counts total after → n ≡ wordCode r
+        → DecodeCall e i q s block before reported n after reported
+    decode-refused r n known o c =
+        decoding-refused decodedNumber decodedValue decodeListed DecodePermits reported (counts, total) after answer o n
+        (λ z. word-nonzero r (ap decodedNumber (sym known) ∙ z)) (known-answer (λ (a : Decoded). code (decodedNumber a) (decodedValue a)) known c)
 
-  pub receive-refused : (stage : Stage) (n : ℕ) → answer ≡ received.Refused stage → ReceiveOutcome e i q s t flag marked before answer counts total after
-      → n ≡ stageCode stage → DecodingCall receivedNumber receivedValue (ReceiveOutcome e i q s t flag marked before) reported n after reported
-  receive-refused stage n known o c =
-      decoding-refused receivedNumber receivedValue (ReceiveOutcome e i q s t flag marked before) reported counts total after answer o n
-      (λ z. stage-nonzero stage (ap receivedNumber (sym known) ∙ z)) (known-answer (λ (a : Received). code (receivedNumber a) (receivedValue a)) known c)
+module _ (e i q s t : ℕ) (flag : Bool) (marked before reported counts : List ℕ) (total : ℕ) (turned : Bool) (after : List ℕ) where
+  abbrev ReceivePermits : Received → List ℕ × ℕ × Bool → List ℕ → Type 0
+  ReceivePermits a r = ReceiveOutcome e i q s t flag marked before a (r .0) (r .1) (r .2)
+
+  module _ {answer : Received} where
+    pub receive-delivered : (report : List ℕ) (number : ℕ) → answer ≡ received.Delivered → ReceiveOutcome e i q s t flag marked before answer counts total turned after
+        → number ≡ truth turned → report ≡ counts ++ (total ∷ number ∷ []) → DecodingCall receivedNumber receivedValue receiveListed ReceivePermits reported 0 after report
+    receive-delivered report number known o is r =
+        decoding-delivered receivedNumber receivedValue receiveListed ReceivePermits reported (counts, total, turned) after answer o report
+        (ap receivedNumber known) (ap receivedValue known) (r ∙ ap (λ (n : ℕ). counts ++ (total ∷ n ∷ [])) is)
+
+    pub receive-refused : (stage : Stage) (n : ℕ) → answer ≡ received.Refused stage → ReceiveOutcome e i q s t flag marked before answer counts total turned after
+        → n ≡ stageCode stage → DecodingCall receivedNumber receivedValue receiveListed ReceivePermits reported n after reported
+    receive-refused stage n known o c =
+        decoding-refused receivedNumber receivedValue receiveListed ReceivePermits reported (counts, total, turned) after answer o n
+        (λ z. stage-nonzero stage (ap receivedNumber (sym known) ∙ z)) (known-answer (λ (a : Received). code (receivedNumber a) (receivedValue a)) known c)
 
 -- ---- the search's report
 
@@ -149,19 +157,22 @@ module _ (before : List ℕ) {answer : Searched} where
   by-kind : (kind : Searched) (n : ℕ) (after : List ℕ) → answer ≡ kind → Reported kind before n after → Reported answer before n after
   by-kind kind n after e r = subst (λ (a : Searched). Reported a before n after) (sym e) r
 
-  pub search-accepted : (kind : Searched) → searchedNumber kind ≡ 0 → answer ≡ kind → Reported answer before 0 (searchReport kind)
-  search-accepted kind z e =
-      by-kind kind 0 (searchReport kind) e
-      (record { coded = sym z; lent = lent-accepted (searchedNumber kind) (searchReport kind) before (searchReport kind) z refl })
+  pub search-accepted : (kind : Searched) (report : List ℕ) → searchedNumber kind ≡ 0 → answer ≡ kind → report ≡ searchReport kind → Reported answer before 0 report
+  search-accepted kind report z e is =
+      by-kind kind 0 report e (record { coded = sym z; lent = lent-accepted (searchedNumber kind) (searchReport kind) before report z is })
 
   pub search-refused : (p : Parameter) (n : ℕ) → answer ≡ searched.Refused p → n ≡ parameterNumber p → Reported answer before n before
   search-refused p n e c =
       by-kind (searched.Refused p) n before e (record { coded = c; lent = lent-refused (parameterNumber p) [] before (parameter-nonzero p) })
 
+-- What is found is reported with its form.
+pub found-report : (place wrong looked number : ℕ) (form : Form) → number ≡ formNumber form
+    → 1 ∷ place ∷ wrong ∷ looked ∷ number ∷ [] ≡ searchReport (searched.Found place form wrong looked)
+found-report place wrong looked number form is = ap {B = List ℕ} (λ (n : ℕ). 1 ∷ place ∷ wrong ∷ looked ∷ n ∷ []) is
+
 -- ---- the report of decode and receive
 
--- Eight counts, each by its place, and the total.
-pub nine : (counts : List ℕ) (total : ℕ) → length counts ≡ 8
-    → getD counts 0 0 ∷ getD counts 1 0 ∷ getD counts 2 0 ∷ getD counts 3 0 ∷ getD counts 4 0 ∷ getD counts 5 0 ∷ getD counts 6 0 ∷ getD counts 7 0 ∷ total ∷ []
-    ≡ counts ++ (total ∷ [])
-nine counts total size = ap {B = List ℕ} (λ (list : List ℕ). list ++ (total ∷ [])) (eight 0 counts size)
+-- Eight counts, each by its place, and what follows them.
+pub eight-then : (counts rest : List ℕ) → length counts ≡ 8
+    → getD counts 0 0 ∷ getD counts 1 0 ∷ getD counts 2 0 ∷ getD counts 3 0 ∷ getD counts 4 0 ∷ getD counts 5 0 ∷ getD counts 6 0 ∷ getD counts 7 0 ∷ rest ≡ counts ++ rest
+eight-then counts rest size = ap {B = List ℕ} (λ (list : List ℕ). list ++ rest) (eight 0 counts size)

@@ -33,7 +33,7 @@ pub record KeptOnARefusal : Type 0 where
   pub decode : (e i q s : ℕ) (block before reported : List ℕ) (answer : ℕ) (after report : List ℕ) → DecodeCall e i q s block before reported answer after report
       → answer ≢ 0 → (after ≡ before) × (report ≡ reported)
   pub randomise : (before : List ℕ) (answer : ℕ) (after : List ℕ) → RandomiseCall before answer after → answer ≢ 0 → after ≡ before
-  pub marker : (tolerance : ℕ) (octets : List ℕ) (before answer after : ℕ) → MarkerCall tolerance octets before answer after → answer ≢ 0 → after ≡ before
+  pub marker : (tolerance : ℕ) (octets before : List ℕ) (answer : ℕ) (after : List ℕ) → MarkerCall tolerance octets before answer after → answer ≢ 0 → after ≡ before
   pub search : (tolerance : ℕ) (stream : List ℕ) (start budget : ℕ) (before : List ℕ) (answer : ℕ) (after : List ℕ)
       → SearchCall tolerance stream start budget before answer after → answer ≢ 0 → after ≡ before
   pub convolve : (rate : ℕ) (octets input before : List ℕ) (counted answer : ℕ) (octets′ after : List ℕ) (count : ℕ)

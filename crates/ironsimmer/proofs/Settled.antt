@@ -1,11 +1,12 @@
 -- Every exported call is settled by its contract: two outcomes that it permits for one input are equal, answer, report and buffers.
+use mathlib.Core.Bool.{Bool}
 use mathlib.Core.Path.{_≡_, sym, ap, ap₂, _∙_, subst}
 use mathlib.Core.List.{List, [], _∷_, _++_}
 use Prim.Native.Nat.{ℕ}
 use native.Mathlib.Decide.{ℕ-discrete}
 use Rattle.refusals.specs.Numbers.{verdictNumber}
 use Rattle.refusals.specs.declared.Verdict.{Verdict}
-use Rattle.reed_solomon.specs.Outcome.{EncodeOutcome, DecodeOutcome, decodedNumber, decodedValue}
+use Rattle.reed_solomon.specs.Outcome.{EncodeOutcome, decodedNumber, decodedValue}
 use Rattle.reed_solomon.specs.declared.Progress.{Progress}
 use Rattle.reed_solomon.specs.Portions.{octetRows, PortionOutcome, CloseOutcome}
 use Rattle.reed_solomon.proofs.Settled.{encode-settled}
@@ -19,9 +20,9 @@ use Rattle.convolution.specs.declared.Ran.{Ran}
 use Rattle.convolution.specs.declared.Convolved.{Convolved}
 use Rattle.convolution.specs.Outcome.{convolvedNumber, convolvedCount}
 use Rattle.convolution.proofs.Settled as coder
-use Rattle.chain.specs.Outcome.{TransmitOutcome, ReceiveOutcome, receivedNumber, receivedValue}
+use Rattle.chain.specs.Outcome.{TransmitOutcome, receivedNumber, receivedValue}
 use Rattle.chain.proofs.Settled.{transmit-settled, receive-settled}
-use Rattle.ironsimmer.specs.Exported.{code, flag, Lent, searchReport, stateOf, stateNumbers, coderOf, coderOctets, CountPut, VerdictCall, EncodeCall, PortioningCall, PortionCall, CloseCall, RandomiseCall, TransmitCall, DecodingCall, DecodeCall, ReceiveCall, MarkerCall, SearchCall, ConvolveCall, ConvolveCloseCall}
+use Rattle.ironsimmer.specs.Exported.{code, flag, truth, Lent, testReport, searchReport, stateOf, stateNumbers, coderOf, coderOctets, decodeListed, receiveListed, CountPut, VerdictCall, EncodeCall, PortioningCall, PortionCall, CloseCall, RandomiseCall, TransmitCall, DecodingCall, DecodeCall, ReceiveCall, MarkerCall, SearchCall, ConvolveCall, ConvolveCloseCall}
 
 -- ---- one law for each kind of call
 
@@ -53,15 +54,15 @@ portioning-call-settled Permits settled numbers rows m n j k r t a b x y =
       same .2,
     )
 
-decoding-call-settled : {Answer : Type 0} (numberOf valueOf : Answer → ℕ) (Permits : Answer → List ℕ → ℕ → List ℕ → Type 0)
-    → ((v w : Answer) (c d : List ℕ) (j k : ℕ) (a b : List ℕ) → Permits v c j a → Permits w d k b → (v ≡ w) × (c ≡ d) × (j ≡ k) × (a ≡ b))
-    → (before : List ℕ) (m n : ℕ) (a b r t : List ℕ) → DecodingCall numberOf valueOf Permits before m a r → DecodingCall numberOf valueOf Permits before n b t
-    → (m ≡ n) × (a ≡ b) × (r ≡ t)
-decoding-call-settled numberOf valueOf Permits settled before m n a b r t x y =
-    let same = settled (x .answered) (y .answered) (x .counts) (y .counts) (x .total) (y .total) a b (x .outcome) (y .outcome) in (
+decoding-call-settled : {Answer Report : Type 0} (numberOf valueOf : Answer → ℕ) (listed : Report → List ℕ) (Permits : Answer → Report → List ℕ → Type 0)
+    → ((v w : Answer) (c d : Report) (a b : List ℕ) → Permits v c a → Permits w d b → (v ≡ w) × (listed c ≡ listed d) × (a ≡ b))
+    → (before : List ℕ) (m n : ℕ) (a b r t : List ℕ) → DecodingCall numberOf valueOf listed Permits before m a r
+    → DecodingCall numberOf valueOf listed Permits before n b t → (m ≡ n) × (a ≡ b) × (r ≡ t)
+decoding-call-settled numberOf valueOf listed Permits settled before m n a b r t x y =
+    let same = settled (x .answered) (y .answered) (x .reported) (y .reported) a b (x .outcome) (y .outcome) in (
       x .coded ∙ ap₂ code (ap numberOf (same .0)) (ap valueOf (same .0)) ∙ sym (y .coded),
-      same .3,
-      lent-settled _ _ _ _ before r t (ap numberOf (same .0)) (ap₂ (λ (counts : List ℕ) (total : ℕ). counts ++ (total ∷ [])) (same .1) (same .2)) (x .lent) (y .lent),
+      same .2,
+      lent-settled _ _ _ _ before r t (ap numberOf (same .0)) (same .1) (x .lent) (y .lent),
     )
 
 count-put-settled : (x y : Convolved) (counted m n c d : ℕ) → x ≡ y → CountPut x counted m c → CountPut y counted n d → (m ≡ n) × (c ≡ d)
@@ -97,13 +98,16 @@ module _ (m n : ℕ) (a b : List ℕ) where
   pub ironsimmer-decode-settled : (e i q s : ℕ) (block before reported r t : List ℕ) → DecodeCall e i q s block before reported m a r
       → DecodeCall e i q s block before reported n b t → (m ≡ n) × (a ≡ b) × (r ≡ t)
   ironsimmer-decode-settled e i q s block before reported =
-      decoding-call-settled decodedNumber decodedValue (DecodeOutcome e i q s block before) (decode-settled e i q s block before) reported m n a b
+      decoding-call-settled decodedNumber decodedValue decodeListed _
+      (λ v w c d f g x y. let same = decode-settled e i q s block before v w (c .0) (d .0) (c .1) (d .1) f g x y in
+      (same .0, ap₂ (λ (counts : List ℕ) (total : ℕ). counts ++ (total ∷ [])) (same .1) (same .2), same .3)) reported m n a b
 
   pub ironsimmer-receive-settled : (e i q s t randomised : ℕ) (marked before reported r u : List ℕ) → ReceiveCall e i q s t randomised marked before reported m a r
       → ReceiveCall e i q s t randomised marked before reported n b u → (m ≡ n) × (a ≡ b) × (r ≡ u)
   ironsimmer-receive-settled e i q s t randomised marked before reported =
-      decoding-call-settled receivedNumber receivedValue (ReceiveOutcome e i q s t (flag randomised) marked before)
-      (receive-settled e i q s t (flag randomised) marked before) reported m n a b
+      decoding-call-settled receivedNumber receivedValue receiveListed _
+      (λ v w c d f g x y. let same = receive-settled e i q s t (flag randomised) marked before v w (c .0) (d .0) (c .1) (d .1) (c .2) (d .2) f g x y in
+      (same .0, ap₂ (λ (counts rest : List ℕ). counts ++ rest) (same .1) (ap₂ (λ (total : ℕ) (turned : Bool). total ∷ truth turned ∷ []) (same .2) (same .3)), same .4)) reported m n a b
 
   pub ironsimmer-search-settled : (tolerance : ℕ) (stream : List ℕ) (start budget : ℕ) (before : List ℕ) → SearchCall tolerance stream start budget before m a
       → SearchCall tolerance stream start budget before n b → (m ≡ n) × (a ≡ b)
@@ -134,13 +138,13 @@ module _ (m n : ℕ) (a b : List ℕ) where
 pub ironsimmer-sequence-settled : (before o a p b : ℕ) → NextOutcome before o a → NextOutcome before p b → (o ≡ p) × (a ≡ b)
 ironsimmer-sequence-settled = next-bits-settled
 
-pub ironsimmer-marker-settled : (tolerance : ℕ) (octets : List ℕ) (before m a n b : ℕ) → MarkerCall tolerance octets before m a → MarkerCall tolerance octets before n b
-    → (m ≡ n) × (a ≡ b)
+pub ironsimmer-marker-settled : (tolerance : ℕ) (octets before : List ℕ) (m : ℕ) (a : List ℕ) (n : ℕ) (b : List ℕ) → MarkerCall tolerance octets before m a
+    → MarkerCall tolerance octets before n b → (m ≡ n) × (a ≡ b)
 ironsimmer-marker-settled tolerance octets before m a n b x y =
     let same : x .tested ≡ y .tested = test-settled tolerance octets (x .tested) (y .tested) (x .outcome) (y .outcome) in (
       elim (ℕ-discrete (testedNumber (x .tested)) 0) [
         | yes z ↦ x .accepted z ∙ sym (y .accepted (ap testedNumber (sym same) ∙ z))
         | no z ↦ x .coded z ∙ ap₂ code (ap testedNumber same) (ap testedValue same) ∙ sym (y .coded (λ w. z (ap testedNumber same ∙ w)))
       ],
-      lent-settled _ _ _ _ before a b (ap testedNumber same) (ap testedValue same) (x .lent) (y .lent),
+      lent-settled _ _ _ _ before a b (ap testedNumber same) (ap testReport same) (x .lent) (y .lent),
     )

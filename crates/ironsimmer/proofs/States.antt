@@ -1,6 +1,5 @@
 -- The state of a frame in portions, between what C lends and the calls beneath.
 use mathlib.Core.Path.{_≡_, sym, ap, _∙_, subst}
-use mathlib.Core.Bool.{Bool}
 use mathlib.Core.List.{List, [], _∷_}
 use Prim.Native.Nat.{ℕ}
 use Rattle.refusals.specs.Numbers.{parameterNumber, verdictNumber}
@@ -18,10 +17,6 @@ pub state-is : (numbers : List ℕ) (rows : List (List ℕ)) (held : List Row) �
     → record { place = stateOf numbers rows .place; closed = stateOf numbers rows .closed; rows = held } ≡ stateOf numbers rows
 state-is numbers rows held packed =
     ap (λ (list : List Row). record { place = stateOf numbers rows .place; closed = stateOf numbers rows .closed; rows = list }) packed
-
--- a flag as a number
-pub told : (flag closed : Bool) (n : ℕ) → closed ≡ flag → n ≡ truth flag → n ≡ truth closed
-told flag closed n e p = p ∙ ap truth (sym e)
 
 module _ (verdict : Verdict) (next : Progress) (numbers : List ℕ) (rows : List (List ℕ)) where
   pub put-refused : (p : Parameter) (answer : ℕ) → verdict ≡ Refused p → answer ≡ parameterNumber p → StatePut verdict next numbers rows answer numbers rows

@@ -1,5 +1,5 @@
 -- What the exported calls answer and leave, by the outcomes of the calls beneath (document 01, "Refusal numbers and the order of checks"; document 02,
--- (ii) and (iii)).
+-- (ii), (iii) and (v)).
 use mathlib.Core.Path.{_≡_}
 use mathlib.Core.Bool.{Bool, true, false, not}
 use mathlib.Core.Logic.{_≢_}
@@ -13,7 +13,10 @@ use Rattle.reed_solomon.specs.Outcome.{EncodeOutcome, DecodeOutcome, decodedNum
 use Rattle.reed_solomon.specs.declared.Progress.{Progress}
 use Rattle.reed_solomon.specs.Portions.{octetRows, heldRows, PortionOutcome, CloseOutcome}
 use Rattle.randomiser.specs.Outcome.{RandomiseOutcome}
+use Rattle.marker.specs.declared.Form.{Form}
+use Rattle.marker.specs.declared.Form.the-variants.{True, Complement}
 use Rattle.marker.specs.declared.Tested.{Tested}
+use Rattle.marker.specs.declared.Tested.the-variants as test
 use Rattle.marker.specs.declared.Searched.{Searched}
 use Rattle.marker.specs.declared.Searched.the-variants.{Found, Absent, Spent, Refused}
 use Rattle.marker.specs.Outcome.{testedNumber, testedValue, searchedNumber, TestOutcome, SearchOutcome}
@@ -31,9 +34,15 @@ code number value = number + 256 * value
 abbrev pub flag : ℕ → Bool
 flag n = not (eqb n 0)
 
+-- A flag that is answered: 1 is yes, 0 is no.
 abbrev pub truth : Bool → ℕ
 truth true = 1
 truth false = 0
+
+-- The form of a marker: 1 true, 2 complement.
+abbrev pub formNumber : Form → ℕ
+formNumber True = 1
+formNumber Complement = 2
 
 -- What C lends for a report is as it was if the call was refused, by its number, and holds the report if it was accepted.
 pub record Lent {A : Type 0} (number : ℕ) (report before after : A) : Type 0 where
@@ -84,37 +93,48 @@ abbrev pub CloseCall : ℕ → ℕ → ℕ → List ℕ → List (List ℕ) → 
 CloseCall e i q numbers rows before answer numbers′ rows′ after =
     PortioningCall (CloseOutcome e i q (stateOf numbers rows) before) numbers rows answer numbers′ rows′ after
 
--- A call that decodes: number and value of an answer that the outcome permits; the report is the counts of eight words, then the total.
-pub record DecodingCall {Answer : Type 0} (numberOf valueOf : Answer → ℕ) (Permits : Answer → List ℕ → ℕ → List ℕ → Type 0) (before : List ℕ) (answer : ℕ)
-    (after report : List ℕ) : Type 0 where
+-- A call that decodes: number and value of an answer that the outcome permits, and its report as it is listed.
+pub record DecodingCall {Answer Report : Type 0} (numberOf valueOf : Answer → ℕ) (listed : Report → List ℕ) (Permits : Answer → Report → List ℕ → Type 0)
+    (before : List ℕ) (answer : ℕ) (after report : List ℕ) : Type 0 where
   pub answered : Answer
-  pub counts : List ℕ
-  pub total : ℕ
-  pub outcome : Permits answered counts total after
+  pub reported : Report
+  pub outcome : Permits answered reported after
   pub coded : answer ≡ code (numberOf answered) (valueOf answered)
-  pub lent : Lent (numberOf answered) (counts ++ (total ∷ [])) before report
+  pub lent : Lent (numberOf answered) (listed reported) before report
+
+-- Decode's report: the counts of eight words, then the total. Receive's has one number more, whether the block was inverted.
+abbrev pub decodeListed : List ℕ × ℕ → List ℕ
+decodeListed reported = reported .0 ++ (reported .1 ∷ [])
+
+abbrev pub receiveListed : List ℕ × ℕ × Bool → List ℕ
+receiveListed reported = reported .0 ++ (reported .1 ∷ truth (reported .2) ∷ [])
 
 abbrev pub DecodeCall : ℕ → ℕ → ℕ → ℕ → List ℕ → List ℕ → List ℕ → ℕ → List ℕ → List ℕ → Type 0
 DecodeCall e i q s block before reported answer after report =
-    DecodingCall decodedNumber decodedValue (DecodeOutcome e i q s block before) reported answer after report
+    DecodingCall decodedNumber decodedValue decodeListed (λ a r. DecodeOutcome e i q s block before a (r .0) (r .1)) reported answer after report
 
 abbrev pub ReceiveCall : ℕ → ℕ → ℕ → ℕ → ℕ → ℕ → List ℕ → List ℕ → List ℕ → ℕ → List ℕ → List ℕ → Type 0
 ReceiveCall e i q s t randomised marked before reported answer after report =
-    DecodingCall receivedNumber receivedValue (ReceiveOutcome e i q s t (flag randomised) marked before) reported answer after report
+    DecodingCall receivedNumber receivedValue receiveListed (λ a r. ReceiveOutcome e i q s t (flag randomised) marked before a (r .0) (r .1) (r .2)) reported answer after report
 
--- The marker test: if accepted it sets the wrong bits; if refused by 9 it has them as the refusal's value.
-pub record MarkerCall (tolerance : ℕ) (octets : List ℕ) (before answer after : ℕ) : Type 0 where
+-- What an accepted marker test reports: the form, and its wrong bits.
+abbrev pub testReport : Tested → List ℕ
+testReport (test.Accepted form wrong) = formNumber form ∷ wrong ∷ []
+testReport (test.Refused r) = []
+
+-- The marker test: if accepted it reports; if refused by 9 it has the fewest wrong bits as the refusal's value.
+pub record MarkerCall (tolerance : ℕ) (octets before : List ℕ) (answer : ℕ) (after : List ℕ) : Type 0 where
   pub tested : Tested
   pub outcome : TestOutcome tolerance octets tested
   pub coded : testedNumber tested ≢ 0 → answer ≡ code (testedNumber tested) (testedValue tested)
   pub accepted : testedNumber tested ≡ 0 → answer ≡ 0
-  pub lent : Lent (testedNumber tested) (testedValue tested) before after
+  pub lent : Lent (testedNumber tested) (testReport tested) before after
 
--- What an accepted search reports: 1 found, 2 absent, 3 spent; the place, 0 if absent; the wrong bits, 0 unless found; the places looked at.
+-- What an accepted search reports: 1 found, 2 absent, 3 spent; the place, 0 if absent; the wrong bits, 0 unless found; the places looked at; the form, 0 unless found.
 abbrev pub searchReport : Searched → List ℕ
-searchReport (Found place wrong looked) = 1 ∷ place ∷ wrong ∷ looked ∷ []
-searchReport (Absent looked) = 2 ∷ 0 ∷ 0 ∷ looked ∷ []
-searchReport (Spent place looked) = 3 ∷ place ∷ 0 ∷ looked ∷ []
+searchReport (Found place form wrong looked) = 1 ∷ place ∷ wrong ∷ looked ∷ formNumber form ∷ []
+searchReport (Absent looked) = 2 ∷ 0 ∷ 0 ∷ looked ∷ 0 ∷ []
+searchReport (Spent place looked) = 3 ∷ place ∷ 0 ∷ looked ∷ 0 ∷ []
 searchReport (Refused p) = []
 
 -- A search that was answered so: its number, and its report if it was accepted.

@@ -1,10 +1,11 @@
-// Refusals as one number: the refusal's number, and 256 times its value.
+// Refusals as one number: the refusal's number, and 256 times its value; the forms of the marker and flags as numbers.
 ghost use mathlib.Core.Path.{_≡_};
 ghost use Rattle.refusals.specs.Numbers.{markerNumber, markerValue, wordNumber, wordValue};
 ghost use Rattle.chain.specs.declared.Received.the-variants as received;
 ghost use Rattle.chain.specs.Outcome.{receivedNumber, receivedValue};
-ghost use Rattle.ironsimmer.specs.Exported.{code};
+ghost use Rattle.ironsimmer.specs.Exported.{code, truth, formNumber};
 use chain::Stage;
+use marker::Form;
 use refusals::MarkerRefusal;
 use refusals::WordRefusal;
 
@@ -34,4 +35,22 @@ pub(crate) fn stage_code(stage: Stage) -> u64
         Stage::Marker(refusal) => marker_code(refusal),
         Stage::Word(refusal) => word_code(refusal),
     }
+}
+
+pub(crate) fn form_number(form: Form) -> u32
+    ensures { λ r. ⌜ r ≡ formNumber form ⌝ }
+{
+    match form {
+        Form::True => 1,
+        Form::Complement => 2,
+    }
+}
+
+pub(crate) fn truth_number(flag: bool) -> u32
+    ensures { λ r. ⌜ r ≡ truth flag ⌝ }
+{
+    if flag {
+        return 1;
+    }
+    0
 }

@@ -100,12 +100,12 @@ pub extern "C" fn ironsimmer_sequence(register: &mut u8) -> u8
 }
 
 #[no_mangle]
-pub extern "C" fn ironsimmer_marker(tolerance: u32, octets: &[u8], wrong: &mut u32) -> u64
-    ensures { λ r. ⌜ MarkerCall tolerance (now (octets .entry)) (now (wrong .entry)) r (now (wrong .exit)) ⌝ }
+pub extern "C" fn ironsimmer_marker(tolerance: u32, octets: &[u8], found: &mut [u32; 2]) -> u64
+    ensures { λ r. ⌜ MarkerCall tolerance (now (octets .entry)) (now (found .entry)) r (now (found .exit)) ⌝ }
 {
     match marker::test(tolerance, octets) {
-        Tested::Accepted(bits) => {
-            *wrong = bits;
+        Tested::Accepted(form, wrong) => {
+            *found = [codes::form_number(form), wrong];
             0
         }
         Tested::Refused(refusal) => codes::marker_code(refusal),
@@ -118,7 +118,7 @@ pub extern "C" fn ironsimmer_search(
     stream: &[u8],
     start: u64,
     budget: u64,
-    found: &mut [u64; 4],
+    found: &mut [u64; 5],
 ) -> u64
     ensures { λ r. ⌜ SearchCall tolerance (now (stream .entry)) start budget (now (found .entry)) r (now (found .exit)) ⌝ }
 {
@@ -180,7 +180,7 @@ pub extern "C" fn ironsimmer_receive(
     randomised: u32,
     marked: &[u8],
     frame: &mut [u8],
-    counts: &mut [u32; 9],
+    counts: &mut [u32; 10],
 ) -> u64
     ensures { λ r. ⌜ ReceiveCall e depth fill s tolerance randomised (now (marked .entry)) (now (frame .entry)) (now (counts .entry)) r (now (frame .exit)) (now (counts .exit)) ⌝ }
 {
@@ -190,6 +190,7 @@ pub extern "C" fn ironsimmer_receive(
         return codes::stage_code(stage);
     }
     let corrected = reception.counts;
-    *counts = reports::report_of(corrected, reception.total);
+    let inverted = codes::truth_number(reception.inverted);
+    *counts = reports::reception_of(corrected, reception.total, inverted);
     0
 }

@@ -1,6 +1,7 @@
 // The state of a frame in portions, in the arrays that C lends. Whole arrays are put in place: a refused call then cannot have written a part.
 ghost use mathlib.Core.Path.{_≡_};
 ghost use Rattle.ironsimmer.specs.Exported.{stateOf, StatePut};
+use crate::codes::truth_number;
 use reed_solomon::Portioned;
 use reed_solomon::Progress;
 use refusals::Verdict;
@@ -26,10 +27,7 @@ pub(crate) fn put(portioned: Portioned, progress: &mut [u32; 2], rows: &mut [[u8
     let state = portioned.state;
     let held = state.rows;
     *rows = reed_solomon::octet_rows(held);
-    let mut closed = 0;
-    if state.closed {
-        closed = 1;
-    }
+    let closed = truth_number(state.closed);
     *progress = [state.place, closed];
     0
 }

@@ -1,10 +1,10 @@
--- The octets of a report's lines, in ASCII (document 01, "The report program").
+-- The octets of a report's lines, in ASCII (document 01, "The report program"; document 02, (v)).
 use mathlib.Core.Bool.{cond}
 use mathlib.Core.List.{List, [], _∷_, _++_}
 use Prim.Native.Nat.{ℕ, zero, suc, _+_, _/_, _%_}
 use lib.Dec.{ltb}
 use Rattle.report_lines.specs.declared.ReportLine.{ReportLine}
-use Rattle.report_lines.specs.declared.ReportLine.the-variants.{Corrected, Refused, Lost, Short, End}
+use Rattle.report_lines.specs.declared.ReportLine.the-variants.{Corrected, Inverted, Refused, Lost, Short, End}
 
 -- A number in decimal, of at most so many digits, the most significant first.
 unfoldable pub decimalWithin : ℕ → ℕ → List ℕ
@@ -43,9 +43,14 @@ endText = 101 ∷ 110 ∷ 100 ∷ 32 ∷ []
 abbrev pub lineEnd : List ℕ
 lineEnd = 10 ∷ []
 
--- The line of a block that was delivered, of one that was refused, of one refused by 10 with its word; of octets left over; of the end.
+-- The line of a delivered block that was inverted ends with " inverted" before it.
+abbrev pub invertedEnd : List ℕ
+invertedEnd = 32 ∷ 105 ∷ 110 ∷ 118 ∷ 101 ∷ 114 ∷ 116 ∷ 101 ∷ 100 ∷ 10 ∷ []
+
+-- The line of a block that was delivered, of one that was delivered inverted, of one that was refused, of one refused by 10 with its word; of octets left over; of the end.
 abbrev pub lineOf : ReportLine → List ℕ
 lineOf (Corrected block total) = blockText ++ (decimal block ++ (correctedText ++ (decimal total ++ lineEnd)))
+lineOf (Inverted block total) = blockText ++ (decimal block ++ (correctedText ++ (decimal total ++ invertedEnd)))
 lineOf (Refused block number) = blockText ++ (decimal block ++ (refusedText ++ (decimal number ++ lineEnd)))
 lineOf (Lost block word) = blockText ++ (decimal block ++ (lostText ++ (decimal word ++ lineEnd)))
 lineOf (Short octets) = shortText ++ (decimal octets ++ lineEnd)

@@ -7,6 +7,7 @@ pub use spelling::line;
 
 pub enum ReportLine {
     Corrected { block: u64, total: u64 },
+    Inverted { block: u64, total: u64 },
     Refused { block: u64, number: u64 },
     Lost { block: u64, word: u64 },
     Short(u64),

@@ -1,6 +1,7 @@
--- Document 01's printed example, of every report of such an input: a transmitted block, a block whose marker is over the tolerance, and three octets more.
+-- Document 01's printed example, of every report of such an input: a transmitted block, a block whose marker is over the tolerance in both forms, and three octets
+-- more. And the line of a transmitted block with all bits inverted (document 02, (v)).
 use mathlib.Core.Path.{_≡_, refl, sym, ap, ap₂, subst, _∙_}
-use mathlib.Core.Bool.{true}
+use mathlib.Core.Bool.{Bool, true}
 use mathlib.Core.Logic.{inl, inr}
 use mathlib.Core.List.{List, [], _∷_, _++_}
 use Prim.Native.Nat.{ℕ, _/_, _%_, _<_}
@@ -13,20 +14,22 @@ use Rattle.refusals.specs.Calls.{transmitOrder, receiveParameters, receiveOrder
 use Rattle.refusals.specs.declared.Verdict.{Verdict}
 use Rattle.refusals.specs.declared.WordRefusal.the-variants as word
 use Rattle.refusals.proofs.Orders.{first-unique, first-passes, clear-accepted}
-use Rattle.marker.specs.Place.{wrongBits}
+use Rattle.marker.specs.declared.Form.{Form}
+use Rattle.marker.specs.declared.Form.the-variants.{True}
+use Rattle.marker.specs.Place.{fewestWrong}
 use Rattle.chain.specs.declared.Stage.the-variants.{Parameters, Marker, Word}
 use Rattle.chain.specs.declared.Received.{Received}
 use Rattle.chain.specs.declared.Received.the-variants as received
-use Rattle.chain.specs.Outcome.{receivedNumber, StageRefuses, TransmitOutcome}
+use Rattle.chain.specs.Outcome.{invertedIf, complemented, receivedNumber, StageRefuses, TransmitOutcome}
 use Rattle.chain.proofs.Transmissions.{TransmitLegal, transmit-legal}
 use Rattle.chain.proofs.Receptions.{receive-numbers}
 use Rattle.chain.proofs.Conditions.{receive-undoes-transmit}
 use Rattle.report_lines.specs.declared.ReportLine.{ReportLine}
-use Rattle.report_lines.specs.declared.ReportLine.the-variants.{Corrected, Refused}
+use Rattle.report_lines.specs.declared.ReportLine.the-variants.{Refused}
 use Rattle.report_lines.specs.declared.Text.{Text}
 use Rattle.report_lines.specs.Lines.{decimalWithin, lineOf, closingOf}
 use Rattle.report_lines.specs.Text.{Holds}
-use Rattle.report_pieces.specs.Pieces.{answeredLine, emptyFrame, BlockReported}
+use Rattle.report_pieces.specs.Pieces.{deliveredLine, answeredLine, emptyFrame, BlockReported}
 use Rattle.report_pieces.specs.Report.{pieceOf, joined, Report}
 use Rattle.report_pieces.proofs.Report.{held-content}
 
@@ -43,37 +46,40 @@ module _ (frame before : List ℕ) (v : Verdict) (marked : List ℕ) (O : Transm
   unfolding emptyFrame
   room = length-replicate {A = ℕ} 1115 0 ∙ sym (legal .input)
 
-  -- The line of a transmitted block is "corrected 0".
-  pub transmitted-line : (k : ℕ) (text : Text) → BlockReported k marked text → Holds text (lineOf (Corrected k 0))
-  transmitted-line k text R =
-      let undone : (R .answer ≡ received.Delivered) × (R .frame ≡ frame) × _ × (R .total ≡ 0) =
-      receive-undoes-transmit 16 5 0 true frame before v marked O accepted 16 3 (omega arith) (omega arith) emptyFrame room (R .answer) (R .counts) (R .total) (R .frame) (R .received) in
-      subst (λ (l : ReportLine). Holds text (lineOf l)) (ap₂ {C = ReportLine} (λ (answer : Received) (total : ℕ). answeredLine k answer total) (undone .0) (undone .3)) (R .said)
+  -- The line of a transmitted block is "corrected 0", and with all bits inverted "corrected 0 inverted".
+  pub transmitted-line : (form : Form) (k : ℕ) (text : Text) → BlockReported k (invertedIf (complemented form) marked) text
+      → Holds text (lineOf (deliveredLine k 0 (complemented form)))
+  transmitted-line form k text R =
+      let undone : (R .answer ≡ received.Delivered) × (R .frame ≡ frame) × _ × (R .total ≡ 0) × (R .turned ≡ complemented form) =
+      receive-undoes-transmit 16 5 0 true frame before v marked O accepted form 16 3 (omega arith) (omega arith) emptyFrame room (R .answer) (R .counts) (R .total) (R .turned) (R .frame) (R .received) in
+      subst (λ (l : ReportLine). Holds text (lineOf l))
+      (ap (λ (answer : Received). answeredLine k answer (R .total) (R .turned)) (undone .0) ∙ ap₂ (deliveredLine k) (undone .3) (undone .4)) (R .said)
 
 -- ---- a block whose marker is over the tolerance
 
-module _ (marked : List ℕ) (whole : length marked ≡ 1279) (over : 3 < wrongBits marked 0) where
+module _ (marked : List ℕ) (whole : length marked ≡ 1279) (over : 3 < fewestWrong marked 0) where
   passes : FirstOf (receiveParameters 16 5 0 16 3 (length marked) (length emptyFrame)) 0
   unfolding emptyFrame
   passes =
       clear-accepted (receiveParameters 16 5 0 16 3 (length marked) (length emptyFrame))
       ((λ d. d (inr (inl refl))), ((λ d. d (inr (inr (inr (inr (inl refl)))))), ((λ d. omega arith), ((λ d. omega arith), ((λ d. omega arith), ((λ d. d whole), ((λ d. d (length-replicate {A = ℕ} 1115 0)), tt)))))))
 
-  nine : (k : ℕ) (answer : Received) (total : ℕ) → receivedNumber answer ≡ 9 → StageRefuses 16 5 0 16 3 marked emptyFrame answer → answeredLine k answer total ≡ Refused k 9
-  nine k received.Delivered total n stage = absurd (omega arith)
-  nine k (received.Refused (Parameters p)) total n stage = absurd (omega (arith, first-unique (receiveParameters 16 5 0 16 3 (length marked) (length emptyFrame)) (parameterNumber p) 0 stage passes))
-  nine k (received.Refused (Marker r)) total n stage = ap (λ (m : ℕ). Refused k m) n
-  nine k (received.Refused (Word (word.Parameters p))) total n stage = absurd (omega (arith, ap wordNumber (stage .1)))
-  nine k (received.Refused (Word (word.NoCodeword w))) total n stage = absurd (omega arith)
+  nine : (k : ℕ) (answer : Received) (total : ℕ) (turned : Bool) → receivedNumber answer ≡ 9 → StageRefuses 16 5 0 16 3 marked emptyFrame answer
+      → answeredLine k answer total turned ≡ Refused k 9
+  nine k received.Delivered total turned n stage = absurd (omega arith)
+  nine k (received.Refused (Parameters p)) total turned n stage = absurd (omega (arith, first-unique (receiveParameters 16 5 0 16 3 (length marked) (length emptyFrame)) (parameterNumber p) 0 stage passes))
+  nine k (received.Refused (Marker r)) total turned n stage = ap (λ (m : ℕ). Refused k m) n
+  nine k (received.Refused (Word (word.Parameters p))) total turned n stage = absurd (omega (arith, ap wordNumber (stage .1)))
+  nine k (received.Refused (Word (word.NoCodeword w))) total turned n stage = absurd (omega arith)
 
   -- Its line is "refused 9".
   pub over-tolerance-line : (k : ℕ) (text : Text) → BlockReported k marked text → Holds text (lineOf (Refused k 9))
   over-tolerance-line k text R =
-      subst (λ (l : ReportLine). Holds text (lineOf l)) (nine k (R .answer) (R .total) number (R .received .stage)) (R .said)
+      subst (λ (l : ReportLine). Holds text (lineOf l)) (nine k (R .answer) (R .total) (R .turned) number (R .received .stage)) (R .said)
     where
       number : receivedNumber (R .answer) ≡ 9
       number =
-          first-unique (receiveOrder 16 5 0 16 3 (length marked) (length emptyFrame) (wrongBits marked 0) _) (receivedNumber (R .answer)) 9 (R .received .number)
+          first-unique (receiveOrder 16 5 0 16 3 (length marked) (length emptyFrame) (fewestWrong marked 0) _) (receivedNumber (R .answer)) 9 (R .received .number)
           (first-passes (receiveParameters 16 5 0 16 3 (length marked) (length emptyFrame)) 9 (receive-numbers 16 5 0 16 3 (length marked) (length emptyFrame)) passes (inl (over, refl)))
 
 -- ---- the printed example
@@ -92,13 +98,13 @@ two-blocks first second left one two = (
 )
 
 pub printed-example : (frame before : List ℕ) (v : Verdict) (first second left octets : List ℕ) → TransmitOutcome 16 5 0 true frame before v first → verdictNumber v ≡ 0
-    → length second ≡ 1279 → 3 < wrongBits second 0 → length left ≡ 3 → Report (first ++ (second ++ left)) octets → octets ≡ printed
+    → length second ≡ 1279 → 3 < fewestWrong second 0 → length left ≡ 3 → Report (first ++ (second ++ left)) octets → octets ≡ printed
 unfolding joined decimalWithin
 printed-example frame before v first second left octets O accepted two over three report =
     report .written
     ∙ ap (λ (n : ℕ). joined (n / 1279) (report .lines) ++ closingOf (n % 1279) (n / 1279)) size
     ∙ ap₂ {C = List ℕ} (λ (u w : List ℕ). (u ++ w) ++ closingOf 3 2)
-    (held-content (report .lines 0) _ (transmitted-line frame before v first O accepted 0 (report .lines 0) (subst (λ (l : List ℕ). BlockReported 0 l (report .lines 0)) (pieces .0) (report .reported 0 (omega (arith, size))))))
+    (held-content (report .lines 0) _ (transmitted-line frame before v first O accepted True 0 (report .lines 0) (subst (λ (l : List ℕ). BlockReported 0 l (report .lines 0)) (pieces .0) (report .reported 0 (omega (arith, size))))))
     (held-content (report .lines 1) _ (over-tolerance-line second two over 1 (report .lines 1) (subst (λ (l : List ℕ). BlockReported 1 l (report .lines 1)) (pieces .1) (report .reported 1 (omega (arith, size))))))
   where
     one : length first ≡ 1279

@@ -1,6 +1,6 @@
 // What the report writes of each piece of its input: the line of a whole block, or the closing lines.
 ghost use mathlib.Core.Path.{_≡_};
-ghost use Rattle.report_pieces.specs.Pieces.{refusedLine, answeredLine, BlockReported, PieceOutcome};
+ghost use Rattle.report_pieces.specs.Pieces.{refusedLine, deliveredLine, answeredLine, BlockReported, PieceOutcome};
 use chain::Received;
 use chain::Stage;
 use refusals::WordRefusal;
@@ -32,14 +32,21 @@ fn refused_line(block: u64, stage: Stage) -> ReportLine
     }
 }
 
-fn answered_line(block: u64, answer: Received, total: u32) -> ReportLine
-    ensures { λ r. ⌜ r ≡ answeredLine block answer total ⌝ }
+fn delivered_line(block: u64, total: u32, inverted: bool) -> ReportLine
+    ensures { λ r. ⌜ r ≡ deliveredLine block total inverted ⌝ }
+{
+    let total = total as u64;
+    if inverted {
+        return ReportLine::Inverted { block, total };
+    }
+    ReportLine::Corrected { block, total }
+}
+
+fn answered_line(block: u64, answer: Received, total: u32, inverted: bool) -> ReportLine
+    ensures { λ r. ⌜ r ≡ answeredLine block answer total inverted ⌝ }
 {
     match answer {
-        Received::Delivered => ReportLine::Corrected {
-            block,
-            total: total as u64,
-        },
+        Received::Delivered => delivered_line(block, total, inverted),
         Received::Refused(stage) => refused_line(block, stage),
     }
 }
@@ -50,7 +57,7 @@ fn block_text(block: u64, marked: &[u8]) -> Text
     let mut frame = [0u8; 1115];
     let reception = chain::receive(16, 5, 0, 16, 3, true, marked, &mut frame);
     let answer = reception.answer;
-    report_lines::line(answered_line(block, answer, reception.total))
+    report_lines::line(answered_line(block, answer, reception.total, reception.inverted))
 }
 
 pub fn piece(block: u64, octets: &[u8]) -> Text

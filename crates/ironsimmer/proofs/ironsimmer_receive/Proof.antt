@@ -18,19 +18,24 @@ same-length : tie.Need-same-length
 same-length c = search needs
 
 returns : tie.Need-returns
-returns c = receive-refused _ _ _ _ _ _ _ _ _ _ _ _ _ _ (c .before .before .answer .given .1) (c .before .before .before .before .before .before .receive .ensures) (c .stage-code .ensures)
+returns c = receive-refused _ _ _ _ _ _ _ _ _ _ _ _ _ _ _ (c .before .before .answer .given .1) (c .before .before .before .before .before .before .receive .ensures) (c .stage-code .ensures)
 
 enum-told : tie.Need-enum-told
 enum-told c = search needs
 
-report-of-requires : tie.Need-report-of-requires
-report-of-requires c κs = receive-sizes _ _ _ _ _ _ _ _ _ _ _ _ (c .before .before .before .before .before .receive .ensures) .1
+truth-number-requires : tie.Need-truth-number-requires
+truth-number-requires c κs = search needs
+
+reception-of-requires : tie.Need-reception-of-requires
+reception-of-requires c κs = receive-sizes _ _ _ _ _ _ _ _ _ _ _ _ _ (c .before .before .before .before .before .before .receive .ensures) .1
 
 same-length-2 : tie.Need-same-length-2
 same-length-2 c = search needs
 
 returns-2 : tie.Need-returns-2
-returns-2 c = receive-delivered _ _ _ _ _ _ _ _ _ _ _ _ _ (c .before .before .enum-told .given .1) (c .before .before .before .before .before .before .receive .ensures) (c .report-of .ensures)
+returns-2 c =
+    receive-delivered _ _ _ _ _ _ _ _ _ _ _ _ _ _ _ (c .before .before .before .enum-told .given .1) (c .before .before .before .before .before .before .before .receive .ensures)
+    (c .before .truth-number .ensures) (c .reception-of .ensures)
 
 pub ironsimmer-receive-spec : {M : Type 1} → statement M
 ironsimmer-receive-spec =
@@ -42,6 +47,7 @@ ironsimmer-receive-spec =
     same-length
     returns
     enum-told
-    report-of-requires
+    truth-number-requires
+    reception-of-requires
     same-length-2
     returns-2)

@@ -26,6 +26,7 @@ returns c =
       answer = c .before .before .before .receive .result .answer;
       counts = c .before .before .before .receive .result .counts;
       total = c .before .before .before .receive .result .total;
+      turned = c .before .before .before .receive .result .inverted;
       frame = _;
       received = c .before .before .before .receive .ensures;
       said = subst (λ (l : ReportLine). LineOutcome l (c .line .result)) (c .before .answered-line .ensures) (c .line .ensures);

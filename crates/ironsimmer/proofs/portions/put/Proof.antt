@@ -1,7 +1,5 @@
 -- `put` leaves what is lent at a refusal; else the state is put in place whole.
-use mathlib.Core.Bool.{true, false}
-use mathlib.Core.Logic.{⊎-elim}
-use Rattle.ironsimmer.proofs.States.{told, put-refused, put-accepted}
+use Rattle.ironsimmer.proofs.States.{put-refused, put-accepted}
 use borrow.Author.Needs.{needs}
 use Rattle.ironsimmer.proofs.portions.put.Statement.{statement}
 use Rattle.ironsimmer.proofs.portions.put.Tie as tie
@@ -21,11 +19,12 @@ enum-told c = search needs
 octet-rows-requires : tie.Need-octet-rows-requires
 octet-rows-requires c κs = search needs
 
+truth-number-requires : tie.Need-truth-number-requires
+truth-number-requires c κs = search needs
+
 returns-2 : tie.Need-returns-2
 returns-2 c =
-    put-accepted _ _ _ _ _ _ (search)
-    (⊎-elim (λ w. told true _ _ (w .0 .taken) (w .1)) (λ w. told false _ _ (w .0 .left) (w .1)) (c .before .if1 .came))
-    (c .before .before .octet-rows .ensures)
+    put-accepted _ _ _ _ _ _ (search) (c .before .truth-number .ensures) (c .before .before .octet-rows .ensures)
 
 pub put-spec : {M : Type 1} → statement M
 put-spec =
@@ -36,4 +35,5 @@ put-spec =
     returns
     enum-told
     octet-rows-requires
+    truth-number-requires
     returns-2)

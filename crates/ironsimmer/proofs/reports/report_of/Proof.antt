@@ -1,5 +1,6 @@
 -- `report_of` lists the counts and the total.
-use Rattle.ironsimmer.proofs.Answers.{nine}
+use Rattle.ironsimmer.proofs.Answers.{eight-then}
+use mathlib.Core.List.{[], _∷_}
 use borrow.Author.Needs.{needs}
 use Rattle.ironsimmer.proofs.reports.report_of.Statement.{statement}
 use Rattle.ironsimmer.proofs.reports.report_of.Tie as tie
@@ -53,7 +54,7 @@ cast-t35 : tie.Need-cast-t35
 cast-t35 c = search needs
 
 returns : tie.Need-returns
-returns c = nine (c .args .t1) (c .args .total) (c .pre)
+returns c = eight-then (c .args .t1) (c .args .total ∷ []) (c .pre)
 
 pub report-of-spec : {M : Type 1} → statement M
 report-of-spec =

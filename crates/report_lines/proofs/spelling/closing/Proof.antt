@@ -41,19 +41,22 @@ count-line-requires-2 c κs = search needs
 slice-aggregate-ended : tie.Need-slice-aggregate-ended
 slice-aggregate-ended c = search needs
 
+slice-aggregate-ended-2 : tie.Need-slice-aggregate-ended-2
+slice-aggregate-ended-2 c = search needs
+
 ended-requires : tie.Need-ended-requires
 ended-requires c κs = (
-  omega (arith, c .before .count-line2 .ensures .size, length-append (decimal (c .before .before .before .before .args .left)) lineEnd, decimal-length 20 (c .before .before .before .before .args .left)),
-  whole-length (c .before .count-line2 .result) _ (c .before .count-line2 .ensures),
+  omega (arith, c .before .before .count-line2 .ensures .size, length-append (decimal (c .before .before .before .before .before .args .left)) lineEnd, decimal-length 20 (c .before .before .before .before .before .args .left)),
+  whole-length (c .before .before .count-line2 .result) _ (c .before .before .count-line2 .ensures),
 )
 
 returns-2 : tie.Need-returns-2
 returns-2 c =
     closed
-    (c .before .before .before .before .before .args .left)
-    (c .before .before .before .before .before .args .blocks)
-    (lt-ltb 0 (c .before .before .before .before .before .args .left) (omega arith))
-    (c .ended .ensures .holds _ (c .before .before .count-line2 .ensures))
+    (c .before .before .before .before .before .before .args .left)
+    (c .before .before .before .before .before .before .args .blocks)
+    (lt-ltb 0 (c .before .before .before .before .before .before .args .left) (omega arith))
+    (c .ended .ensures .holds _ (c .before .before .before .count-line2 .ensures))
 
 pub closing-spec : {M : Type 1} → statement M
 closing-spec =
@@ -65,5 +68,6 @@ closing-spec =
     slice-aggregate-count-line-2
     count-line-requires-2
     slice-aggregate-ended
+    slice-aggregate-ended-2
     ended-requires
     returns-2)

@@ -12,16 +12,13 @@ with-text-requires c κs = search needs
 with-number-requires : tie.Need-with-number-requires
 with-number-requires c κs = search needs
 
-slice-aggregate-with-text : tie.Need-slice-aggregate-with-text
-slice-aggregate-with-text c = search needs
-
 with-text-requires-2 : tie.Need-with-text-requires-2
 with-text-requires-2 c κs =
-    (omega (arith, decimal-length 20 (c .before .before .before .before .args .number)), c .before .with-number .ensures .whole)
+    (omega (arith, decimal-length 20 (c .before .before .before .before .args .number)), c .with-number .ensures .whole)
 
 returns : tie.Need-returns
 returns c =
-    twice _ _ _ _ _ (c .before .before .before .with-text .ensures) (twice _ _ _ _ _ (c .before .before .with-number .ensures) (c .with-text2 .ensures))
+    twice _ _ _ _ _ (c .before .before .with-text .ensures) (twice _ _ _ _ _ (c .before .with-number .ensures) (c .with-text2 .ensures))
 
 pub ended-spec : {M : Type 1} → statement M
 ended-spec =
@@ -29,6 +26,5 @@ ended-spec =
     (tie.spec
     with-text-requires
     with-number-requires
-    slice-aggregate-with-text
     with-text-requires-2
     returns)
