@@ -143,6 +143,7 @@ pub(crate) fn receive(
     );
     let received = reception.answer;
     reply(received);
+    flag(reception.inverted);
     print::number(reception.total as u64);
     let counts = reception.counts;
     print::numbers(&counts);

@@ -10,9 +10,9 @@
 
 /* RANDOMISED must be the flag that was sent: ironsimmer_receive cannot see it, and at some sizes (not these) the other goes unnoticed. */
 enum { STRENGTH = 16, WORDS = 5, FILL = 0, ALLOWANCE = 16, TOLERANCE = 3, RANDOMISED = 1 };
-enum { FRAME = (255 - 2 * STRENGTH - FILL) * WORDS, MARKED = (255 - FILL) * WORDS + 4, TOTAL = 8 };
+enum { FRAME = (255 - 2 * STRENGTH - FILL) * WORDS, MARKED = (255 - FILL) * WORDS + 4, TOTAL = 8, INVERTED = 9 };
 
-/* A refusal by 9 carries the wrong bits, but the report's line does not have them; one by 10 names its word. */
+/* A refusal by 9 carries the wrong bits of the nearer form, but the report's line does not have them; one by 10 names its word. */
 static void print_refusal(unsigned long block, uint64_t answer)
 {
     unsigned number = IRONSIMMER_NUMBER(answer);
@@ -23,18 +23,21 @@ static void print_refusal(unsigned long block, uint64_t answer)
         printf("block %lu: refused %u\n", block, number);
 }
 
-/* Returns 0 if a delivered frame could not be written. */
+/*
+ * Returns 0 if a delivered frame could not be written. The marker alone says whether the block is inverted: with no fill, as here, a
+ * complemented marker before a block that is not inverted goes unnoticed, and the inverted frame is written.
+ */
 static int receive_block(unsigned long block, const uint8_t *marked, FILE *frames)
 {
     uint8_t frame[FRAME];
-    uint32_t counts[9];
+    uint32_t counts[10];
     uint64_t answer = ironsimmer_receive(STRENGTH, WORDS, FILL, ALLOWANCE, TOLERANCE, RANDOMISED, marked, MARKED, frame, FRAME, counts);
 
     if (answer != IRONSIMMER_ACCEPTED) {
         print_refusal(block, answer);
         return 1;
     }
-    printf("block %lu: corrected %lu\n", block, (unsigned long)counts[TOTAL]);
+    printf("block %lu: corrected %lu%s\n", block, (unsigned long)counts[TOTAL], counts[INVERTED] ? " inverted" : "");
     return fwrite(frame, 1, FRAME, frames) == FRAME;
 }
 

@@ -3,7 +3,7 @@
 use crate::blocks::{Code, Decoding};
 use crate::data::{bits, buffer, drawn};
 use crate::limits::{receive_number, transmit_number};
-use crate::marker::{wrong, MARKER};
+use crate::marker::{fit, Form, MARKER};
 use crate::randomiser::randomised;
 
 /// The sequence added if the flag says so; a block is never over the randomiser's limit.
@@ -25,19 +25,21 @@ pub fn transmit(code: Code, flag: bool, frame: &[u8], before: &[u8]) -> (u64, Ve
     (0, [&MARKER[..], &randomised_if(flag, &block)].concat())
 }
 
-/// The answer with its stage, number and value, and what decode reports.
+/// The answer with its stage, number and value, whether it was inverted, and what decode reports.
 pub fn receive(code: Code, s: u64, t: u64, flag: bool, marked: &[u8], before: &[u8]) -> Decoding {
     let number = receive_number(code.e, code.i, code.q, s, t, marked.len() as u64, before.len() as u64);
     if number != 0 {
-        return Decoding::refused(format!("parameters {number} 0"), before);
+        return Decoding::refused(format!("parameters {number} 0 0"), before);
     }
     let (front, block) = marked.split_at(4);
-    let wrong = wrong(&bits(front), 0);
-    if u64::from(wrong) > t {
-        return Decoding::refused(format!("marker 9 {wrong}"), before);
-    }
-    let mut out = code.decode(s, &randomised_if(flag, block), before);
-    out.answer = if out.answer == "0" { "delivered 0 0".to_string() } else { format!("word {}", out.answer) };
+    let form = match fit(t as u32, &bits(front), 0) {
+        Ok((form, _)) => form,
+        Err(wrong) => return Decoding::refused(format!("marker 9 {wrong} 0"), before),
+    };
+    let block: Vec<u8> = block.iter().map(|octet| if form == Form::Complement { !octet } else { *octet }).collect();
+    let mut out = code.decode(s, &randomised_if(flag, &block), before);
+    let inverted = u8::from(form == Form::Complement);
+    out.answer = if out.answer == "0" { format!("delivered 0 0 {inverted}") } else { format!("word {} 0", out.answer) };
     out
 }
 
@@ -52,21 +54,49 @@ fn write_receive(code: Code, s: u64, t: u64, flag: bool, marked: &[u8], frame: u
     println!("receive {} {} {} {s} {t} {} {} {}", code.e, code.i, code.q, u8::from(flag), out.answer, out.report());
 }
 
+/// All bits of some octets.
+fn invert(octets: &mut [u8]) {
+    octets.iter_mut().for_each(|octet| *octet = !*octet);
+}
+
+/// What a demodulator may make of a marked block: the block alone inverted, the marker alone, both; then, still inverted, so many wrong
+/// octets, E in each word, and one more.
+fn turned(code: Code, flag: bool, mut marked: Vec<u8>, frame: usize, worn: usize) {
+    let receive = |marked: &[u8]| write_receive(code, code.e, 3, flag, marked, frame);
+    invert(&mut marked[4..]);
+    receive(&marked);
+    invert(&mut marked);
+    receive(&marked);
+    invert(&mut marked[4..]);
+    receive(&marked);
+    marked[4..4 + worn].iter_mut().for_each(|octet| *octet ^= 0x5A);
+    receive(&marked);
+    marked[4 + worn] ^= 0x5A;
+    receive(&marked);
+}
+
 /// Transmit with one flag, and receive of what then stands there with the other or the same.
-fn there_and_back(code: Code, sent: bool, opened: bool, frame: usize, marked: usize) {
+fn there_and_back(code: Code, sent: bool, opened: bool, frame: usize, marked: usize) -> Vec<u8> {
     let marked = write_transmit(code, sent, &drawn(37, frame), marked);
     write_receive(code, code.e, 3, opened, &marked, frame);
+    marked
+}
+
+/// The same of a size that is not refused, and then inverted.
+fn both_ways(code: Code, sent: bool, opened: bool) {
+    let (frame, worn) = ((255 - 2 * code.e - code.q) * code.i, code.e * code.i);
+    let marked = there_and_back(code, sent, opened, frame as usize, (frame + 2 * worn + 4) as usize);
+    turned(code, opened, marked, frame as usize, worn as usize);
 }
 
 /// The shortest and the longest marked block, and some between them, at every depth.
 fn codes() {
     for (e, i, q) in [(16, 1, 222), (8, 2, 238), (8, 3, 100), (16, 4, 1), (16, 5, 0), (8, 8, 0)] {
         for (sent, opened) in [(false, false), (true, true), (true, false)] {
-            let frame = (255 - 2 * e - q) * i;
-            there_and_back(Code { e, i, q }, sent, opened, frame as usize, (frame + 2 * e * i + 4) as usize);
+            both_ways(Code { e, i, q }, sent, opened);
         }
     }
-    there_and_back(Code { e: 8, i: 8, q: 0 }, false, true, 1912, 2044);
+    both_ways(Code { e: 8, i: 8, q: 0 }, false, true);
 }
 
 fn refusals() {
@@ -94,9 +124,17 @@ fn refusals() {
 
 const SHORTEST: Code = Code { e: 16, i: 1, q: 222 };
 
+/// All bits of the marked block, if it is inverted.
+fn invert_if(inverted: bool, marked: &mut [u8]) {
+    if inverted {
+        invert(marked);
+    }
+}
+
 /// A marker with no to four wrong bits at each tolerance, and at one past the last.
-fn wrong_markers() {
+fn wrong_markers(inverted: bool) {
     let mut marked = write_transmit(SHORTEST, true, &[0xC3], 37);
+    invert_if(inverted, &mut marked);
     for (at, bit) in [(0, 0), (0, 0x80), (3, 0x01), (1, 0x10), (2, 0x08)] {
         marked[at] ^= bit;
         for t in 0..5 {
@@ -106,10 +144,11 @@ fn wrong_markers() {
 }
 
 /// Word 1 of three with E wrong symbols, then one in word 0 too, then one more in word 1.
-fn damaged(e: u64, flag: bool) {
+fn damaged(e: u64, flag: bool, inverted: bool) {
     let code = Code { e, i: 3, q: 200 };
     let frame = drawn(41, 3 * (55 - 2 * e as usize));
     let mut marked = write_transmit(code, flag, &frame, 169);
+    invert_if(inverted, &mut marked);
     for k in 0..e as usize {
         marked[4 + 3 * k + 1] ^= 0x5A;
     }
@@ -123,8 +162,9 @@ fn damaged(e: u64, flag: bool) {
 }
 
 /// A lost word, and before it one by one the faults that come earlier in the order.
-fn two_faults() {
+fn two_faults(inverted: bool) {
     let mut marked = write_transmit(SHORTEST, false, &[0], 37);
+    invert_if(inverted, &mut marked);
     marked[4..21].iter_mut().for_each(|octet| *octet ^= 0xFF);
     write_receive(SHORTEST, 16, 3, false, &marked, 1);
     marked[..4].iter_mut().for_each(|octet| *octet ^= 0x40);
@@ -134,6 +174,8 @@ fn two_faults() {
     write_receive(SHORTEST, 16, 4, false, &marked[..36], 1);
     write_receive(SHORTEST, 17, 4, false, &marked, 1);
     write_receive(Code { q: 223, ..SHORTEST }, 17, 3, false, &marked, 1);
+    write_receive(Code { i: 6, q: 223, ..SHORTEST }, 17, 3, false, &marked, 1);
+    write_receive(Code { e: 15, i: 6, q: 223 }, 17, 3, false, &marked, 1);
     write_receive(SHORTEST, u32::MAX.into(), u32::MAX.into(), false, &[], 0);
     write_receive(SHORTEST, 16, u32::MAX.into(), false, &[], 0);
     write_receive(SHORTEST, 0, 0, false, &[], 1);
@@ -142,8 +184,76 @@ fn two_faults() {
 pub fn write_all() {
     codes();
     refusals();
-    wrong_markers();
-    damaged(16, true);
-    damaged(8, false);
-    two_faults();
+    for inverted in [false, true] {
+        wrong_markers(inverted);
+        damaged(16, true, inverted);
+        damaged(8, false, inverted);
+        two_faults(inverted);
+    }
+}
+
+#[cfg(test)]
+mod tests {
+    use super::*;
+
+    fn sent(code: Code, flag: bool) -> (Vec<u8>, Vec<u8>) {
+        let frame = drawn(23, ((255 - 2 * code.e - code.q) * code.i) as usize);
+        let (number, marked) = transmit(code, flag, &frame, &vec![170; ((255 - code.q) * code.i + 4) as usize]);
+        assert_eq!(number, 0);
+        (frame, marked)
+    }
+
+    fn sizes() -> Vec<Code> {
+        let all = [8, 16].map(|e| [1, 2, 3, 4, 5, 8].map(|i| [0, 1, 100, 254 - 2 * e].map(|q| Code { e, i, q })));
+        all.concat().concat()
+    }
+
+    /// With E wrong symbols in every word and three wrong bits in the marker the frame comes back from the inverted block too.
+    #[test]
+    fn inverted_blocks() {
+        for code in sizes() {
+            for flag in [false, true] {
+                let (frame, mut marked) = sent(code, flag);
+                let worn = 4..4 + (code.e * code.i) as usize;
+                marked[worn].iter_mut().for_each(|octet| *octet ^= 0xA5);
+                [0, 1, 3].into_iter().for_each(|at| marked[at] ^= 0x20);
+                invert(&mut marked);
+                let out = receive(code, code.e, 3, flag, &marked, &vec![170; frame.len()]);
+                assert_eq!((out.answer.as_str(), out.frame), ("delivered 0 0 1", frame));
+                assert!(out.counts[..code.i as usize].iter().all(|count| *count == code.e as usize));
+            }
+        }
+    }
+
+    /// The word of 255 octets FF is a codeword: without fill a complemented marker before a block that is not inverted goes unseen, and the
+    /// inverted frame is delivered, with no count. With fill the block is refused.
+    #[test]
+    fn marker_alone_complemented() {
+        for code in sizes() {
+            let (frame, mut marked) = sent(code, true);
+            invert(&mut marked[..4]);
+            let out = receive(code, code.e, 0, true, &marked, &vec![170; frame.len()]);
+            let expected = if code.q == 0 {
+                ("delivered 0 0 1", frame.iter().map(|octet| !octet).collect())
+            } else {
+                ("word 10 0 0", vec![170; frame.len()])
+            };
+            assert_eq!((out.answer.as_str(), out.counts, out.frame), (expected.0, [0; 8], expected.1));
+        }
+    }
+
+    #[test]
+    fn refusals_do_not_say_inverted() {
+        let (_, mut marked) = sent(SHORTEST, false);
+        invert(&mut marked);
+        let answer = |marked: &[u8]| receive(SHORTEST, 16, 3, false, marked, &[170]).answer;
+        assert_eq!(answer(&marked), "delivered 0 0 1");
+        assert_eq!(answer(&marked[..36]), "parameters 5 0 0");
+        marked[4..21].iter_mut().for_each(|octet| *octet ^= 0xFF);
+        assert_eq!(answer(&marked), "word 10 0 0");
+        marked[0] ^= 0xF0;
+        assert_eq!(answer(&marked), "marker 9 4 0");
+        marked[..4].fill(0);
+        assert_eq!(answer(&marked), "marker 9 13 0");
+    }
 }

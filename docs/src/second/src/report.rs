@@ -2,7 +2,7 @@
 
 use crate::blocks::Code;
 use crate::data::{bits, drawn};
-use crate::marker::{wrong, MARKER};
+use crate::marker::{fit, Form, MARKER};
 use crate::randomiser::randomised;
 use std::io::Write;
 
@@ -37,8 +37,14 @@ fn damaged(seed: u32, marker: [u8; 4], words: [usize; 5]) -> Vec<u8> {
     marked
 }
 
-/// Clean, corrected, refused 9, refused 10 at the first, a middle and the last word, limits and one past each, and a remainder that
-/// lacks one octet.
+fn inverted(mut marked: Vec<u8>) -> Vec<u8> {
+    marked.iter_mut().for_each(|octet| *octet ^= 0xFF);
+    marked
+}
+
+/// Clean, corrected, refused 9, refused 10 at the first, a middle and the last word, limits and one past each; a complemented marker before
+/// a block that is not inverted, which is delivered as the inverted frame; inverted blocks, clean, corrected, refused 9 and refused 10; and a
+/// remainder that lacks one octet.
 fn kinds() -> Vec<u8> {
     [
         damaged(1, [0; 4], [0; 5]),
@@ -53,6 +59,10 @@ fn kinds() -> Vec<u8> {
         damaged(10, [0; 4], [0, 17, 0, 17, 0]),
         damaged(11, [0xF0, 0, 0, 0], [17; 5]),
         damaged(12, [0; 4], [9, 0, 16, 5, 2]),
+        inverted(damaged(14, [0; 4], [0; 5])),
+        inverted(damaged(15, [1, 0x10, 0, 0x80], [0, 0, 3, 0, 16])),
+        inverted(damaged(16, [1, 0x10, 2, 0x80], [0; 5])),
+        inverted(damaged(17, [0; 4], [0, 0, 17, 0, 0])),
         drawn(13, MARKED - 1),
     ]
     .concat()
@@ -68,13 +78,18 @@ fn input(name: &str) -> Vec<u8> {
 }
 
 fn verdict(marked: &[u8]) -> String {
-    if wrong(&bits(&marked[..4]), 0) > 3 {
+    let Ok((form, _)) = fit(3, &bits(&marked[..4]), 0) else {
         return "refused 9".to_string();
-    }
-    let found = CODE.decode(16, &randomised(&marked[4..]).unwrap(), &[0; FRAME]);
+    };
+    let block: Vec<u8> =
+        marked[4..].iter().map(|octet| if form == Form::Complement { !octet } else { *octet }).collect();
+    let found = CODE.decode(16, &randomised(&block).unwrap(), &[0; FRAME]);
     match found.answer.split_once(' ') {
         Some((number, word)) => format!("refused {number} word {word}"),
-        None => format!("corrected {}", found.counts.iter().sum::<usize>()),
+        None => {
+            let end = if form == Form::Complement { " inverted" } else { "" };
+            format!("corrected {}{end}", found.counts.iter().sum::<usize>())
+        }
     }
 }
 
@@ -105,7 +120,14 @@ mod tests {
     }
 
     #[test]
-    fn zeroed_marker() {
-        assert_eq!(wrong(&bits(&[0; 4]), 0), 19);
+    fn inverted_blocks() {
+        let lines = output(&inverted(printed())[..2 * MARKED]);
+        assert_eq!(lines, "block 0: corrected 0 inverted\nblock 1: refused 9\nend 2\n");
+    }
+
+    /// The word of 255 octets FF is a codeword: the report says inverted, and corrects nothing.
+    #[test]
+    fn marker_alone_complemented() {
+        assert_eq!(output(&damaged(6, [0xFF; 4], [0; 5])), "block 0: corrected 0 inverted\nend 1\n");
     }
 }

@@ -19,6 +19,9 @@ tests-at-requires c κs = search needs
 short-stream-requires : tie.Need-short-stream-requires Inv-loop μ-loop
 short-stream-requires c κs = search needs
 
+either-first-requires : tie.Need-either-first-requires Inv-loop μ-loop
+either-first-requires c κs = search needs
+
 add-tolerance : tie.Need-add-tolerance Inv-loop μ-loop
 add-tolerance c = search needs
 
@@ -52,6 +55,7 @@ all-spec =
     loop-holds
     tests-at-requires
     short-stream-requires
+    either-first-requires
     add-tolerance
     loop-less
     loop-again
