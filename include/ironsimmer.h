@@ -6,9 +6,9 @@
  * once.
  *
  * Every call but ironsimmer_sequence returns one number: IRONSIMMER_NUMBER of it is the refusal's number, 0 if the call was accepted,
- * and IRONSIMMER_VALUE the refusal's value (of 9 the wrong bits, of 10 the lowest word that has no codeword; else 0). If several
- * refusals are due, the first in the order that each call names is answered. After a refusal every buffer and every number that was
- * lent to be written holds what it held.
+ * and IRONSIMMER_VALUE the refusal's value (of 9 the wrong bits of the form that has fewer, of 10 the lowest word that has no codeword;
+ * else 0). If several refusals are due, the first in the order that each call names is answered. After a refusal every buffer and every
+ * number that was lent to be written holds what it held.
  *
  * Any number and any length is accepted and judged. Of the caller this asks: each pointer is not null and points to as many octets or
  * numbers as are said to be there (also if that is none), and what is lent to be written overlaps nothing else that is lent.
@@ -33,7 +33,7 @@ enum ironsimmer_refusal {
     IRONSIMMER_OUTPUT_LENGTH = 6, /* what is written has not the length required */
     IRONSIMMER_RATE = 7,          /* the rate is none of 1 to 5, or the coder cannot be in the state at that rate */
     IRONSIMMER_TOLERANCE = 8,     /* the tolerance is over 3 */
-    IRONSIMMER_MARKER = 9,        /* more wrong bits in the marker than the tolerance; the value is their number */
+    IRONSIMMER_MARKER = 9,        /* neither form of the marker is within the tolerance; the value is the smaller count of wrong bits */
     IRONSIMMER_WORD = 10,         /* a word has no codeword with zero fill within the allowance; the value is the lowest such word */
     IRONSIMMER_START = 11,        /* the search starts past the stream's end */
     IRONSIMMER_PROGRESS = 14      /* the frame is closed, or the portion would pass its end, or the close is not at it */
@@ -43,6 +43,11 @@ enum ironsimmer_search_kind {
     IRONSIMMER_FOUND = 1,
     IRONSIMMER_ABSENT = 2,
     IRONSIMMER_SPENT = 3
+};
+
+enum ironsimmer_form {
+    IRONSIMMER_TRUE = 1,
+    IRONSIMMER_COMPLEMENT = 2 /* all bits inverted */
 };
 
 #define IRONSIMMER_NUMBER(answer) ((unsigned)((answer) & 255))
@@ -107,19 +112,22 @@ uint64_t ironsimmer_randomise(uint8_t *block, size_t block_len);
 uint8_t ironsimmer_sequence(uint8_t *reg);
 
 /*
- * Tests four octets against the marker 1A CF FC 1D: accepted, with the number of wrong bits, if that is at most the tolerance (0 to 3).
- * Refuses by 8, 5, 9, and then leaves *wrong as it was.
+ * Tests four octets against the marker 1A CF FC 1D and against its complement E5 30 03 E2: accepted, if one of the two has at most as
+ * many wrong bits as the tolerance (0 to 3) says. Never do both fit. found holds the form that does (IRONSIMMER_TRUE or
+ * IRONSIMMER_COMPLEMENT), then its wrong bits.
+ * Refuses by 8, 5, 9, and then leaves found as it was.
  */
-uint64_t ironsimmer_marker(uint32_t tolerance, const uint8_t *octets, size_t octets_len, uint32_t *wrong);
+uint64_t ironsimmer_marker(uint32_t tolerance, const uint8_t *octets, size_t octets_len, uint32_t found[2]);
 
 /*
- * Looks for the marker at every bit of a stream of at most 65,536 octets, from bit `start` on, at no more than `budget` places.
- * found holds the kind (IRONSIMMER_FOUND, IRONSIMMER_ABSENT, IRONSIMMER_SPENT), the place (the first that fits; if spent, the next to
- * look at; if absent, 0), the wrong bits there (0 unless found), and how many places were looked at.
+ * Looks for the marker, in either form, at every bit of a stream of at most 65,536 octets, from bit `start` on, at no more than `budget`
+ * places. found holds the kind (IRONSIMMER_FOUND, IRONSIMMER_ABSENT, IRONSIMMER_SPENT), the place (the first that fits either way; if
+ * spent, the next to look at; if absent, 0), the wrong bits there of the form that fits (0 unless found), how many places were looked
+ * at, and that form (IRONSIMMER_TRUE or IRONSIMMER_COMPLEMENT; 0 unless found).
  * Refuses by 8, 5, 11, and then leaves found as it was.
  */
 uint64_t ironsimmer_search(uint32_t tolerance, const uint8_t *stream, size_t stream_len,
-                           uint64_t start, uint64_t budget, uint64_t found[4]);
+                           uint64_t start, uint64_t budget, uint64_t found[5]);
 
 /*
  * Codes the next octets of a stream, at most 2,044 in one call, at rates 1 to 5 (1/2, 2/3, 3/4, 5/6, 7/8). A whole stream is coded by
@@ -162,8 +170,9 @@ uint64_t ironsimmer_transmit(uint32_t e, uint32_t depth, uint32_t fill, uint32_t
                              const uint8_t *frame, size_t frame_len, uint8_t *marked, size_t marked_len);
 
 /*
- * Tests the marker of a marked block, randomises the block again unless `randomised` is 0, and decodes it; frame and counts as in
- * decode. The marked block is not changed.
+ * Tests the marker of a marked block, inverts the block after a complemented one, randomises it again unless `randomised` is 0, and
+ * decodes it. frame is as in decode; counts holds the nine numbers of decode, then 1 if the block was inverted, else 0. The marked block
+ * is not changed.
  *
  * WARNING: `randomised` must be the flag that was sent; this call cannot see which it was. With the other flag a block of these sizes is
  * delivered as ANOTHER FRAME, with nothing counted beyond what was wrong before, because the sequence is there itself made of codewords:
@@ -171,10 +180,15 @@ uint64_t ironsimmer_transmit(uint32_t e, uint32_t depth, uint32_t fill, uint32_t
  *     E 8, Q 0, I 1, 2, 4, 5 or 8
  * At every other size a block that arrived as it was sent is then refused by 10.
  *
+ * WARNING: the marker alone says whether the block is inverted. At Q 0 (no fill) the word of 255 octets FF is itself a codeword, so that
+ * a complemented marker before a block that is not inverted is delivered as the INVERTED FRAME, with nothing counted beyond what was
+ * wrong before; so is a true marker before a block that is inverted. The code cannot see it. With fill such a block, if it arrived as it
+ * was sent, is refused by 10.
+ *
  * Refuses by 1, 2, 3, 4, 8, 5, 6, 9, 10, and then leaves frame and counts as they were.
  */
 uint64_t ironsimmer_receive(uint32_t e, uint32_t depth, uint32_t fill, uint32_t s, uint32_t tolerance, uint32_t randomised,
-                            const uint8_t *marked, size_t marked_len, uint8_t *frame, size_t frame_len, uint32_t counts[9]);
+                            const uint8_t *marked, size_t marked_len, uint8_t *frame, size_t frame_len, uint32_t counts[10]);
 
 #ifdef __cplusplus
 }

@@ -1,8 +1,9 @@
 //! That the sides answer alike: on every timed input, and on a sweep of parameters, limits and refusals.
 
-use crate::calls::{filled_len, Calls, Code, Coder, State, PERIODS};
+use crate::calls::{filled_len, Calls, Code, Coder, State};
+use crate::calls::{COMPLEMENT, FOUND, MARKER, PERIODS};
 use crate::cases::{Case, Lent};
-use crate::data::Draw;
+use crate::data::{put, Draw};
 use std::array::from_fn;
 
 /// Asks each side, each with the same lent buffers, and gives what all of them answered and wrote.
@@ -113,20 +114,43 @@ fn words(draw: &mut Draw, sides: &[&dyn Calls]) -> u64 {
     answer & 255
 }
 
-fn stream(draw: &mut Draw, sides: &[&dyn Calls]) {
-    let n = [0, 3, 4, 40, 65536, 65537][draw.below(6)];
+/// A stream with up to two markers in either form, at drawn bits, with up to four wrong bits. Starts and budgets lie anywhere, but mostly
+/// about the last that was put there, and about the end. Gives the refusal's number, then the kind and the form.
+fn stream(draw: &mut Draw, sides: &[&dyn Calls]) -> (u64, [u64; 2]) {
+    let n = [0, 3, 4, 5, 6, 12, 12, 40, 40, 65536, 65537][draw.below(11)];
     let mut octets = draw.octets(n);
-    if n >= 40 {
-        let place = draw.below(n - 3);
-        octets[place..place + 4].copy_from_slice(&[0x1A, 0xCF, 0xFC, 0x1D]);
-        octets[place] ^= 1 << draw.below(8);
+    let last = (8 * n).saturating_sub(32);
+    let mut place = last;
+    for _ in 0..draw.below(3) {
+        place = [draw.below(last + 1), draw.below(last + 1), last][draw.below(3)];
+        let form = [MARKER, !MARKER][draw.below(2)];
+        let wrong = (0..draw.below(5)).fold(0, |bits, _| bits | 1 << draw.below(32));
+        if n >= 4 {
+            put(&mut octets, place, form ^ wrong);
+        }
     }
-    let tolerance = draw.below(5) as u32;
-    let start = draw.below(8 * n + 2) as u64;
-    let budget = [0, 1, draw.below(1000) as u64, u64::MAX][draw.below(4)];
-    alike(sides, &Lent::new(0), "search", |side, lent| {
+    let tolerance = one_of(draw, &[0, 1, 2, 3, 3], &[4, u32::MAX]);
+    let near = place.saturating_sub(draw.below(20));
+    let start = [0, near, near, place + 1, draw.below(8 * n + 2)][draw.below(5)] as u64;
+    let there = (place as u64).saturating_sub(start);
+    let left = (last as u64 + 1).saturating_sub(start);
+    let some = draw.below(1000) as u64;
+    let budgets = [
+        0,
+        1,
+        some,
+        there,
+        there + 1,
+        left.saturating_sub(1),
+        left,
+        u64::MAX,
+    ];
+    let budget = budgets[draw.below(8)];
+    let what = format!("search, {n} octets, tolerance {tolerance}, start {start}, budget {budget}");
+    let (answer, lent) = alike(sides, &Lent::new(0), &what, |side, lent| {
         side.search(tolerance, &octets, start, budget, &mut lent.found)
     });
+    (answer, [lent.found[0], lent.found[4]])
 }
 
 /// A state of the convolutional coder with a period of so many bits; now and then a number in it is past its limit.
@@ -170,20 +194,33 @@ fn randomise(draw: &mut Draw, sides: &[&dyn Calls]) {
     });
 }
 
-/// How often each number was decode's answer in so many draws, all of which the sides answered alike, and how many calls of the
-/// convolutional coder were accepted.
-pub fn of_sweep(sides: &[&dyn Calls], draws: usize) -> ([usize; 11], usize) {
+/// What the sides answered, all of them alike.
+#[derive(Default)]
+pub struct Sweep {
+    /// How often each number was decode's answer.
+    pub decoded: [usize; 11],
+    /// How many calls of the convolutional coder were accepted.
+    pub convolved: usize,
+    /// How many searches were refused, found the marker, found nothing, and spent their budget.
+    pub searched: [usize; 4],
+    /// How many of those that found it found the complement.
+    pub complements: usize,
+}
+
+pub fn of_sweep(sides: &[&dyn Calls], draws: usize) -> Sweep {
     let mut draw = Draw::new(2);
-    let mut answers = [0; 11];
-    let mut convolved = 0;
+    let mut sweep = Sweep::default();
     for n in 0..draws {
-        answers[words(&mut draw, sides) as usize] += 1;
+        sweep.decoded[words(&mut draw, sides) as usize] += 1;
         portions(&mut draw, sides);
-        convolved += usize::from(coder(&mut draw, sides));
+        sweep.convolved += usize::from(coder(&mut draw, sides));
         randomise(&mut draw, sides);
-        if n % 20 == 0 {
-            stream(&mut draw, sides);
+        if n % 2 == 0 {
+            let (number, [kind, form]) = stream(&mut draw, sides);
+            let kind = if number == 0 { kind } else { 0 };
+            sweep.searched[kind as usize] += 1;
+            sweep.complements += usize::from(kind == FOUND && form == COMPLEMENT);
         }
     }
-    (answers, convolved)
+    sweep
 }

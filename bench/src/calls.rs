@@ -33,10 +33,17 @@ pub fn filled_len(rate: u32, state: Coder, data: usize) -> usize {
     (holds + 8 * data + begun) / 8
 }
 
+/// The marker, as it is sent; its complement has all bits inverted.
+pub const MARKER: u32 = 0x1ACFFC1D;
+
 /// What search answers first; the numbers of the header.
 pub const FOUND: u64 = 1;
 pub const ABSENT: u64 = 2;
 pub const SPENT: u64 = 3;
+
+/// What it answers last, if it found a marker: its form.
+pub const TRUE: u64 = 1;
+pub const COMPLEMENT: u64 = 2;
 
 pub trait Calls {
     fn encode(&self, code: Code, frame: &[u8], block: &mut [u8]) -> u64;
@@ -60,7 +67,7 @@ pub trait Calls {
         stream: &[u8],
         start: u64,
         budget: u64,
-        found: &mut [u64; 4],
+        found: &mut [u64; 5],
     ) -> u64;
 
     fn convolve(

@@ -1,18 +1,20 @@
 //! The cases that are timed: each a call on inputs that were made beforehand.
 
-use crate::calls::{filled_len, Calls, Code, Coder, State, ABSENT, FOUND};
-use crate::data::Draw;
+use crate::calls::{filled_len, Calls, Code, Coder, State};
+use crate::calls::{ABSENT, COMPLEMENT, FOUND, MARKER, SPENT, TRUE};
+use crate::data::{put, Draw};
 
 /// Different inputs in turn, so that no side's branches are learnt by heart.
 const INPUTS: usize = 20;
 const STREAM: usize = 65536;
+const PLACES: u64 = 8 * STREAM as u64 - 31;
 
 /// Everything that a call may write.
 #[derive(Clone, Debug, PartialEq)]
 pub struct Lent {
     pub octets: Vec<u8>,
     pub counts: [u32; 9],
-    pub found: [u64; 4],
+    pub found: [u64; 5],
     pub count: u32,
     pub state: State,
     pub coder: Coder,
@@ -24,7 +26,7 @@ impl Lent {
         Lent {
             octets: vec![170; octets],
             counts: [170; 9],
-            found: [170; 4],
+            found: [170; 5],
             count: 170,
             state: State::start(),
             coder: [0; 4],
@@ -39,7 +41,8 @@ enum Work {
     /// As many empty portions as the frame has octets.
     EmptyPortions(Code),
     Decode(Code),
-    Search,
+    /// From a start, with a budget.
+    Search(u64, u64),
     /// From a state of the coder.
     Convolve(u32, Coder),
     /// From the start in calls of so many octets, which fill so many each, and the close.
@@ -70,7 +73,7 @@ impl Case {
                 .map(|_| side.portion(code, &mut lent.state, &[], &mut []))
                 .fold(0, |all, number| all | number),
             Work::Decode(code) => side.decode(code, code.e, read, out, &mut lent.counts),
-            Work::Search => side.search(3, read, 0, u64::MAX, &mut lent.found),
+            Work::Search(start, budget) => side.search(3, read, start, budget, &mut lent.found),
             Work::Convolve(rate, state) => {
                 lent.coder = state;
                 side.convolve(rate, &mut lent.coder, read, out, &mut lent.count)
@@ -84,7 +87,7 @@ impl Case {
     pub fn forms(&self) -> usize {
         match self.work {
             Work::Convolve(..) | Work::Stream(..) => 3,
-            Work::Decode(_) => 2,
+            Work::Decode(_) | Work::Search(..) => 2,
             _ => 1,
         }
     }
@@ -177,26 +180,84 @@ fn decode(draw: &mut Draw, side: &dyn Calls, e: u32, wrong: u32) -> Case {
     Case::new(name, Work::Decode(code), code.frame_len(), input)
 }
 
-/// Drawn octets have the marker, with up to three wrong bits, about as often as not: it is taken out where it is found.
-fn search(draw: &mut Draw, side: &dyn Calls) -> Case {
+/// Drawn octets without the marker. They have it in one of its forms, with up to three wrong bits, about as often as not: it is taken out
+/// where it is found. One of its octets inverted is too much for either form.
+fn without_marker(draw: &mut Draw, side: &dyn Calls, octets: usize) -> Vec<u8> {
+    let mut stream = draw.octets(octets);
+    let mut found = [FOUND, 0, 0, 0, 0];
+    while found[0] == FOUND {
+        assert_eq!(side.search(3, &stream, 0, u64::MAX, &mut found), 0);
+        if found[0] == FOUND {
+            stream[found[1] as usize / 8 + 1] ^= 255;
+        }
+    }
+    stream
+}
+
+/// A search whose outcome is known: nothing fits but a marker that is put there, if one is.
+fn search(
+    draw: &mut Draw,
+    side: &dyn Calls,
+    name: &str,
+    octets: usize,
+    marker: Option<(u64, u32)>,
+    work: (u64, u64),
+    found: [u64; 5],
+) -> Case {
     let mut expected = Lent::new(0);
-    expected.found = [ABSENT, 0, 0, 8 * STREAM as u64 - 31];
+    expected.found = found;
     let input = || {
-        let mut stream = draw.octets(STREAM);
-        let mut found = [FOUND, 0, 0, 0];
-        while found[0] == FOUND {
-            assert_eq!(side.search(3, &stream, 0, u64::MAX, &mut found), 0);
-            if found[0] == FOUND {
-                stream[found[1] as usize / 8 + 1] ^= 255;
-            }
+        let mut stream = without_marker(draw, side, octets);
+        if let Some((place, word)) = marker {
+            put(&mut stream, place as usize, word);
         }
         Input {
             read: stream,
             expected: Some(expected.clone()),
         }
     };
-    let name = format!("search, {STREAM} octets, tolerance 3, absent");
-    Case::new(name, Work::Search, 0, input)
+    let name = format!("search, {octets} octets, tolerance 3, {name}");
+    Case::new(name, Work::Search(work.0, work.1), 0, input)
+}
+
+fn searches(draw: &mut Draw, side: &dyn Calls) -> Vec<Case> {
+    let (last, middle) = (PLACES - 1, 4 * 1279 + 1);
+    let whole = (0, u64::MAX);
+    let half = PLACES / 2;
+    let mut case = |name: &str, octets, marker, work, found| {
+        search(draw, side, name, octets, marker, work, found)
+    };
+    vec![
+        case("absent", STREAM, None, whole, [ABSENT, 0, 0, PLACES, 0]),
+        case(
+            "at the end",
+            STREAM,
+            Some((last, MARKER)),
+            whole,
+            [FOUND, last, 0, PLACES, TRUE],
+        ),
+        case(
+            "complement at the end",
+            STREAM,
+            Some((last, !MARKER)),
+            whole,
+            [FOUND, last, 0, PLACES, COMPLEMENT],
+        ),
+        case(
+            "in the middle, start 3",
+            1279,
+            Some((middle, MARKER)),
+            (3, u64::MAX),
+            [FOUND, middle, 0, middle - 2, TRUE],
+        ),
+        case(
+            "half the places, spent",
+            STREAM,
+            Some((last, MARKER)),
+            (0, half),
+            [SPENT, half, 0, half, 0],
+        ),
+    ]
 }
 
 const RATES: [&str; 5] = ["1/2", "2/3", "3/4", "5/6", "7/8"];
@@ -289,7 +350,7 @@ pub fn all(side: &dyn Calls) -> Vec<Case> {
     for (e, wrong) in [(16, 0), (16, 8), (16, 16), (8, 0), (8, 4), (8, 8)] {
         cases.push(decode(&mut draw, side, e, wrong));
     }
-    cases.push(search(&mut draw, side));
+    cases.extend(searches(&mut draw, side));
     for rate in 1..=5 {
         cases.push(convolve(&mut draw, rate, [0; 4], ""));
     }

@@ -30,3 +30,12 @@ impl Draw {
         }
     }
 }
+
+/// Puts 32 bits at a place of a stream, which is the number of a bit, top bit first.
+pub fn put(stream: &mut [u8], place: usize, word: u32) {
+    for k in 0..32 {
+        let (at, bit) = (place + k, word >> (31 - k) & 1);
+        let mask = 128 >> (at % 8);
+        stream[at / 8] = stream[at / 8] & !mask | if bit == 1 { mask } else { 0 };
+    }
+}

@@ -33,14 +33,16 @@ fn features() -> String {
 }
 
 fn compare(sides: &[&dyn Calls], cases: &[Case]) {
-    let (answers, convolved) = agreement::of_sweep(sides, DRAWS);
+    let sweep = agreement::of_sweep(sides, DRAWS);
     for case in cases {
         agreement::of_case(case, sides);
     }
+    let [refused, found, absent, spent] = sweep.searched;
     println!(
-        "The sides agree on {DRAWS} draws of parameters and data (decode delivered {}, refused {} by 10, \
-         the rest by 1 to 6; convolve accepted {convolved}), and on every timed input.",
-        answers[0], answers[10]
+        "The sides agree on {DRAWS} draws of parameters and data (decode delivered {}, refused {} by 10, the rest by 1 to 6; \
+         convolve accepted {}; search found {found}, {} of them complements, absent {absent}, spent {spent}, refused {refused}), \
+         and on every timed input.",
+        sweep.decoded[0], sweep.decoded[10], sweep.convolved, sweep.complements
     );
 }
 

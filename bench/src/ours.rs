@@ -145,7 +145,7 @@ impl Calls for Ours {
         stream: &[u8],
         start: u64,
         budget: u64,
-        found: &mut [u64; 4],
+        found: &mut [u64; 5],
     ) -> u64 {
         let (octets, len) = (stream.as_ptr(), stream.len());
         unsafe { ironsimmer_search(tolerance, octets, len, start, budget, found.as_mut_ptr()) }

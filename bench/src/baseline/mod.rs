@@ -1,6 +1,7 @@
 //! Plain Rust that does the same: safe code, tables built once, no intrinsics. The Reed-Solomon code is that of docs/src/log_table.
 
 mod convolution;
+mod eights;
 mod groups;
 mod limits;
 mod marker;
@@ -9,11 +10,12 @@ mod randomiser;
 
 use crate::calls::{Calls, Code, Coder, State};
 use convolution::ByWindows;
+use eights::ByEights;
 use groups::ByTables;
 use log_table::{Counts, Refusal};
 use randomiser::Sequence;
 
-/// Which form of decoder and convolutional coder answers; the other calls have one form, and the decoder has two.
+/// Which form of decoder, search and convolutional coder answers; the other calls have one form, decoder and search have two.
 pub enum Form {
     Plain,
     Faster,
@@ -24,6 +26,7 @@ pub struct Baseline {
     form: Form,
     by_windows: ByWindows,
     by_tables: ByTables,
+    by_eights: ByEights,
     sequence: Sequence,
 }
 
@@ -33,6 +36,7 @@ impl Baseline {
             form,
             by_windows: ByWindows::new(),
             by_tables: ByTables::new(),
+            by_eights: ByEights::new(),
             sequence: Sequence::new(),
         }
     }
@@ -92,9 +96,14 @@ impl Calls for Baseline {
         stream: &[u8],
         start: u64,
         budget: u64,
-        found: &mut [u64; 4],
+        found: &mut [u64; 5],
     ) -> u64 {
-        marker::search(tolerance, stream, start, budget, found)
+        match self.form {
+            Form::Plain => marker::search(tolerance, stream, start, budget, found),
+            Form::Faster | Form::Fastest => {
+                (self.by_eights).search(tolerance, stream, start, budget, found)
+            }
+        }
     }
 
     fn convolve(

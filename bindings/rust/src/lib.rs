@@ -12,9 +12,9 @@ mod raw;
 mod refusal;
 mod words;
 
-pub use chain::Chain;
+pub use chain::{Chain, Reception};
 pub use convolution::{convolve, symbols_len, CoderState, Convolver};
-pub use marker::{search, test_marker, Search, MARKER};
+pub use marker::{search, test_marker, Form, Search, MARKER};
 pub use portions::PortionEncoder;
 pub use randomiser::{randomise, Sequence};
 pub use refusal::Refusal;

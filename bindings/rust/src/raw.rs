@@ -55,7 +55,7 @@ extern "C" {
 
     fn ironsimmer_sequence(reg: *mut u8) -> u8;
 
-    fn ironsimmer_marker(tolerance: u32, octets: *const u8, octets_len: usize, wrong: *mut u32) -> u64;
+    fn ironsimmer_marker(tolerance: u32, octets: *const u8, octets_len: usize, found: *mut u32) -> u64;
 
     fn ironsimmer_search(
         tolerance: u32,
@@ -187,13 +187,13 @@ pub fn sequence(register: &mut u8) -> u8 {
     unsafe { ironsimmer_sequence(register) }
 }
 
-pub fn marker(tolerance: u32, octets: &[u8], wrong: &mut u32) -> u64 {
-    // SAFETY: the octets go with their own length, and the one number written, lent by `&mut`, overlaps none of them.
-    unsafe { ironsimmer_marker(tolerance, octets.as_ptr(), octets.len(), wrong) }
+pub fn marker(tolerance: u32, octets: &[u8], found: &mut [u32; 2]) -> u64 {
+    // SAFETY: the octets go with their own length, found has the two numbers that are written and, lent by `&mut`, overlaps no octet.
+    unsafe { ironsimmer_marker(tolerance, octets.as_ptr(), octets.len(), found.as_mut_ptr()) }
 }
 
-pub fn search(tolerance: u32, stream: &[u8], start: u64, budget: u64, found: &mut [u64; 4]) -> u64 {
-    // SAFETY: the stream goes with its own length, found has the four numbers that are written and, lent by `&mut`, overlaps no stream.
+pub fn search(tolerance: u32, stream: &[u8], start: u64, budget: u64, found: &mut [u64; 5]) -> u64 {
+    // SAFETY: the stream goes with its own length, found has the five numbers that are written and, lent by `&mut`, overlaps no stream.
     unsafe { ironsimmer_search(tolerance, stream.as_ptr(), stream.len(), start, budget, found.as_mut_ptr()) }
 }
 
@@ -243,10 +243,10 @@ pub fn receive(
     randomised: bool,
     marked: &[u8],
     frame: &mut [u8],
-    counts: &mut [u32; 9],
+    counts: &mut [u32; 10],
 ) -> u64 {
     let Words { strength, depth, fill } = words;
-    // SAFETY: both slices go with their own lengths, counts has the nine numbers that are written, and the frame and the counts, each
+    // SAFETY: both slices go with their own lengths, counts has the ten numbers that are written, and the frame and the counts, each
     // lent by `&mut`, overlap neither the marked block nor each other.
     unsafe {
         ironsimmer_receive(

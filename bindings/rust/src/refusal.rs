@@ -24,9 +24,9 @@ pub enum Refusal {
     Rate,
     /// 8: the tolerance is over 3.
     Tolerance,
-    /// 9: the marker has more wrong bits than the tolerance.
+    /// 9: both forms of the marker have more wrong bits than the tolerance.
     Marker {
-        /// How many bits are wrong.
+        /// How many bits are wrong, in the form that has fewer.
         wrong_bits: u32,
     },
     /// 10: a word has no codeword with zero fill within the allowance.
@@ -72,7 +72,7 @@ impl fmt::Display for Refusal {
             Refusal::OutputLength => write!(f, "the output has not the length required"),
             Refusal::Rate => write!(f, "the rate is none of 1 to 5, or the coder cannot be in the state at that rate"),
             Refusal::Tolerance => write!(f, "the tolerance is over 3"),
-            Refusal::Marker { wrong_bits } => write!(f, "the marker has {wrong_bits} wrong bits"),
+            Refusal::Marker { wrong_bits } => write!(f, "the marker has {wrong_bits} wrong bits in its nearer form"),
             Refusal::Word { word } => write!(f, "word {word} has no codeword within the allowance"),
             Refusal::Start => write!(f, "the search starts past the stream's end"),
             Refusal::Progress => {
@@ -86,7 +86,7 @@ impl Error for Refusal {}
 
 /// What a call's one number says: the refusal's number in its lowest eight bits, 0 if accepted, and the refusal's value above them.
 pub(crate) fn accepted(answer: u64) -> Result<(), Refusal> {
-    // The largest value is the number of a marker's bits, 32.
+    // The largest value is half the number of a marker's bits, 16: one of its forms has no more wrong.
     let value = (answer >> 8) as u32;
     Err(match answer & 255 {
         0 => return Ok(()),

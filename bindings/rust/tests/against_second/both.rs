@@ -1,6 +1,8 @@
 //! The twelve calls, each made in both programs on the same input. All that they answer and leave behind is compared.
 
-use ironsimmer::{Chain, CoderState, Convolver, PortionEncoder, Refusal, Report, Search, Sequence, Words};
+use ironsimmer::{
+    Chain, CoderState, Convolver, Form, PortionEncoder, Reception, Refusal, Report, Search, Sequence, Words,
+};
 use second::blocks::{Code, Decoding};
 use second::convolution::Coder;
 use second::data::{bits, packed};
@@ -46,6 +48,13 @@ fn numbers<T>(answer: &Result<T, Refusal>) -> (u64, u64) {
 
 fn code(words: Words) -> Code {
     Code { e: words.strength.into(), i: words.depth.into(), q: words.fill.into() }
+}
+
+fn form(form: second::marker::Form) -> Form {
+    match form {
+        second::marker::Form::True => Form::True,
+        second::marker::Form::Complement => Form::Complement,
+    }
 }
 
 /// Demands that a decoding is the second program's, whose answer tells the number and perhaps the value, in a chain after the stage.
@@ -130,11 +139,14 @@ pub fn receive(
     tolerance: u32,
     marked: &[u8],
     before: &[u8],
-) -> (Result<Report, Refusal>, Vec<u8>) {
+) -> (Result<Reception, Refusal>, Vec<u8>) {
     let (answer, frame) = lent(before, |frame| chain.receive(allowance, tolerance, marked, frame));
     let (s, t) = (allowance.into(), tolerance.into());
     let expected = second::chain::receive(code(chain.words), s, t, chain.randomised, marked, before);
-    same_decoding(&answer, &frame, &expected, &format!("{chain:?}, allowance {allowance}, tolerance {tolerance}"));
+    let case = format!("{chain:?}, allowance {allowance}, tolerance {tolerance}");
+    same_decoding(&answer.map(|reception| reception.report), &frame, &expected, &case);
+    // The second program's answer ends with 1 where it delivers an inverted block, else with 0.
+    assert_eq!(answer.is_ok_and(|reception| reception.inverted), expected.answer.ends_with(" 1"), "{case}");
     (answer, frame)
 }
 
@@ -157,21 +169,22 @@ pub fn sequence(register: u8, n: usize) -> Vec<u8> {
     octets
 }
 
-pub fn test_marker(tolerance: u32, octets: &[u8]) -> Result<u32, Refusal> {
+pub fn test_marker(tolerance: u32, octets: &[u8]) -> Result<(Form, u32), Refusal> {
     let answer = ironsimmer::test_marker(tolerance, octets);
-    let told = match answer {
-        Ok(wrong_bits) => (0, Some(wrong_bits)),
-        Err(Refusal::Marker { wrong_bits }) => (9, Some(wrong_bits)),
-        Err(refusal) => (u64::from(refusal.number()), None),
-    };
-    assert_eq!(told, second::marker::test(tolerance, octets));
+    let told = answer.map_err(|refusal| match refusal {
+        Refusal::Marker { wrong_bits } => (9, Some(wrong_bits)),
+        refusal => (u64::from(refusal.number()), None),
+    });
+    assert_eq!(told, second::marker::test(tolerance, octets).map(|(named, wrong)| (form(named), wrong)));
     answer
 }
 
 pub fn search(tolerance: u32, stream: &[u8], start: u64, budget: u64) -> Result<Search, Refusal> {
     let answer = ironsimmer::search(tolerance, stream, start, budget);
     let expected = second::marker::search(tolerance, stream, start, budget).map(|searched| match searched {
-        Searched::Found { place, wrong, looked } => Search::Found { place, wrong_bits: wrong, looked },
+        Searched::Found { place, wrong, looked, form: named } => {
+            Search::Found { place, form: form(named), wrong_bits: wrong, looked }
+        }
         Searched::Absent { looked } => Search::Absent { looked },
         Searched::Spent { next, looked } => Search::Spent { next, looked },
     });

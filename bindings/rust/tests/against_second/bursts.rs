@@ -3,7 +3,7 @@
 use crate::both;
 use crate::draw::{Draw, DEPTHS};
 use crate::tally::Tally;
-use ironsimmer::{Chain, Report, Words};
+use ironsimmer::{Chain, Reception, Report, Words};
 
 const SHEET: &str = include_str!("../../../../docs/DATASHEET.md");
 
@@ -49,7 +49,8 @@ fn differing(words: Words, sent: &[u8], received: &[u8]) -> Report {
     Report { counts, total: counts.iter().sum() }
 }
 
-/// Spoils a block, and a marked block sent with either flag, and demands that both calls deliver the frame and the true counts.
+/// Spoils a block, and a marked block sent with either flag and received in either form, and demands that both calls deliver the frame and
+/// the true counts.
 fn corrected(draw: &Draw, tally: &mut Tally, words: Words, spoil: impl Fn(&mut [u8])) {
     let frame = draw.frame(words);
     let (_, sent) = both::encode(words, &frame, &draw.octets(words.block_len().unwrap()));
@@ -67,8 +68,9 @@ fn corrected(draw: &Draw, tally: &mut Tally, words: Words, spoil: impl Fn(&mut [
     draw.spoil_bits(&mut marked[..4], tolerance);
     spoil(&mut marked[4..]);
     let report = differing(words, &sent[4..], &marked[4..]);
+    let inverted = draw.perhaps_invert(&mut marked);
     let (answer, found) = both::receive(chain, words.strength, tolerance as u32, &marked, &draw.frame(words));
-    assert_eq!((answer, found), (Ok(report), frame), "{chain:?}");
+    assert_eq!((answer, found), (Ok(Reception { report, inverted }), frame), "{chain:?}");
     tally.count(&answer);
 }
 

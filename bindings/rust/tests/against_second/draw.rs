@@ -99,4 +99,18 @@ impl Draw {
             octets[bit / 8] ^= 128 >> (bit % 8);
         }
     }
+
+    /// Inverts all bits, every other time, and says whether it did.
+    pub fn perhaps_invert(&self, octets: &mut [u8]) -> bool {
+        let inverted = self.once_in(2);
+        if inverted {
+            invert(octets);
+        }
+        inverted
+    }
+}
+
+/// Inverts all bits.
+pub fn invert(octets: &mut [u8]) {
+    octets.iter_mut().for_each(|octet| *octet = !*octet);
 }

@@ -69,6 +69,7 @@ fn transmit_and_receive() {
             draw.spoil_bits(&mut marked[..4], wrong_bits);
         }
         perhaps_ruin(&draw, &mut marked);
+        draw.perhaps_invert(&mut marked);
         let (allowance, tolerance) = (any_allowance(&draw, chain.words), draw.tolerance());
         let frame = draw.octets(frame_len);
         received.count(&both::receive(chain, allowance, tolerance, &marked, &frame).0);
