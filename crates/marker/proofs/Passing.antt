@@ -1,5 +1,5 @@
 -- A search that goes on from a place up to which none fits: what it answers there, with the places passed counted, it answers from the start.
-use mathlib.Core.Path.{_≡_}
+use mathlib.Core.Path.{_≡_, refl}
 use mathlib.Core.Logic.{⊎-elim}
 use mathlib.Core.List.{List}
 use Prim.Native.Nat.{ℕ, _+_, _-_, _*_, _≤_, _<_}
@@ -29,6 +29,24 @@ module _ (tolerance : ℕ) (stream : List ℕ) where
     where
       spent : {next looked : ℕ} → BudgetSpent tolerance stream start n next looked → NoneFits tolerance stream start (start + n)
       spent S p from before fits = S .none p from (omega (arith, S .reached)) fits
+
+  -- What was answered before the budget was spent, a larger budget answers too.
+  pub more-budget : (start n budget : ℕ) (answer : Searched) → Looked tolerance stream start n answer → ((next looked : ℕ) → answer ≡ Spent next looked → ⊥) → n ≤ budget
+      → Looked tolerance stream start budget answer
+  more-budget start n budget (Found place form wrong looked) F unspent more =
+      record {
+        from = F .from;
+        inside = F .inside;
+        fits = F .fits;
+        first = F .first;
+        named = F .named;
+        bits = F .bits;
+        counted = F .counted;
+        affordable = omega (arith, F .affordable);
+      }
+  more-budget start n budget (Absent looked) N unspent more = record { none = N .none; counted = N .counted; affordable = omega (arith, N .affordable) }
+  more-budget start n budget (Spent next looked) S unspent more = absurd (unspent next looked refl)
+  more-budget start n budget (Refused p) N unspent more = N
 
   -- An answer of a walk is no refusal.
   pub no-refusal : (start n : ℕ) {Anything : Type 0} (answer : Searched) {p : Parameter} → answer ≡ Refused p → Looked tolerance stream start n answer → Anything

@@ -1,5 +1,5 @@
 -- What the search has seen before a bit, how that grows with each bit, and what each way out of its loops then answers.
-use mathlib.Core.Path.{_≡_, _∙_}
+use mathlib.Core.Path.{_≡_, ap, _∙_}
 use mathlib.Core.Logic.{_⊎_, inl, inr, ⊎-elim}
 use mathlib.Core.List.{List}
 use Prim.Native.Nat.{ℕ, suc, _+_, _-_, _*_, _/_, _%_, _^_, _≤_, _<_}
@@ -14,20 +14,13 @@ use Rattle.marker.specs.declared.Form.{Form}
 use Rattle.marker.specs.declared.Form.the-variants.{True}
 use Rattle.marker.specs.Place.{wrongBits, nearer, fewer, formAt, fewestWrong, NoneFits, remaining}
 use Rattle.marker.specs.Outcome.{FoundFirst, NoneLeft, BudgetSpent}
+use Rattle.marker.specs.Working.{word, base, Carried}
 use Rattle.marker.proofs.Forms.{named-at}
-use Rattle.marker.proofs.Word.{word, word-none, word-more, word-split, word-small, word-wrong, bit-small}
-
--- The first bit of the octet in which the start lies: from it on bits enter the window.
-abbrev pub base : ℕ → ℕ
-base start = start / 8 * 8
-
--- The window before bit q: the last 32 of the bits that entered.
-abbrev pub Carried : List ℕ → ℕ → ℕ → ℕ → Type 0
-Carried s start q window = window ≡ word (q - base start) s (base start) % 2 ^ 32
+use Rattle.marker.proofs.Word.{word-none, word-more, front-enters, word-split, word-small, word-wrong, bit-small}
 
 -- Before bit q, `looked` places were looked at, all that have no bit from q on, and none fits.
 pub record Sofar (tolerance : ℕ) (s : List ℕ) (start budget q window looked : ℕ) : Type 0 where
-  pub reached : base start ≤ q
+  pub reached : start + 31 ≤ q
   pub carried : Carried s start q window
   pub counted : looked ≡ q - (start + 31)
   pub none : NoneFits tolerance s start (start + looked)
@@ -42,10 +35,20 @@ pub record Stopped (tolerance : ℕ) (s : List ℕ) (start budget looked : ℕ) 
 
 -- ---- the window
 
-window-starts : (s : List ℕ) (start : ℕ) → Carried s start (base start) 0
-window-starts s start =
+pub none-entered : (s : List ℕ) (start : ℕ) → Carried s start (base start) 0
+none-entered s start =
     let none : base start - base start ≡ 0 = omega arith in
     rw (none, word-none s (base start))
+
+-- The first n bits of octet i enter.
+pub front-entered : (s : List ℕ) (start i n : ℕ) {window next : ℕ} → getD s i 0 < 256 → n ≤ 8 → start / 8 ≤ i → Carried s start (i * 8) window
+    → next ≡ window * 2 ^ n % 2 ^ 32 + getD s i 0 / 2 ^ (8 - n) → Carried s start (i * 8 + n) next
+front-entered s start i n octet h l old e =
+    let more : i * 8 + n - base start ≡ i * 8 - base start + n = omega arith in
+    rw more (front-enters s (base start) (i * 8 - base start) i n octet h (omega arith) old e)
+
+pub moved-on : (s : List ℕ) (start : ℕ) {p q window : ℕ} → p ≡ q → Carried s start p window → Carried s start q window
+moved-on s start e old = old ∙ ap (λ (q : ℕ). word (q - base start) s (base start) % 2 ^ 32) e
 
 -- Bit b of octet i enters.
 pub entered : (s : List ℕ) (start i b : ℕ) {window next : ℕ} → b < 8 → base start ≤ i * 8 + b → Carried s start (i * 8 + b) window
@@ -68,14 +71,8 @@ window-here s start q {window} h old =
 -- ---- what was seen
 
 module _ {tolerance : ℕ} {s : List ℕ} {start budget : ℕ} where
-  pub begins : Sofar tolerance s start budget (base start) 0 0
-  begins = record {
-    reached = omega arith;
-    carried = window-starts s start;
-    counted = omega arith;
-    none = λ p l h f. omega arith;
-    within = omega arith;
-  }
+  pub begins : {window : ℕ} → Carried s start (start + 31) window → Sofar tolerance s start budget (start + 31) window 0
+  begins carried = record { reached = omega arith; carried = carried; counted = omega arith; none = λ p l h f. omega arith; within = omega arith }
 
   pub moved : {p q window looked : ℕ} → p ≡ q → Sofar tolerance s start budget p window looked → Sofar tolerance s start budget q window looked
   moved e h = rw (← e) h
@@ -83,30 +80,20 @@ module _ {tolerance : ℕ} {s : List ℕ} {start budget : ℕ} where
   module _ (i b : ℕ) {window next looked : ℕ} (small : b < 8) (so : Sofar tolerance s start budget (i * 8 + b) window looked)
       (e : next ≡ window * 2 % 2 ^ 32 + getD s i 0 / 2 ^ (7 - b) % 2) where
     carried-on : Carried s start (i * 8 + (b + 1)) next
-    carried-on = entered s start i b small (so .reached) (so .carried) e
-
-    -- The bit is before the last one of the first place.
-    pub skipped : i * 8 + b < start + 31 → Sofar tolerance s start budget (i * 8 + (b + 1)) next looked
-    skipped early = record {
-      reached = omega arith;
-      carried = carried-on;
-      counted = omega arith;
-      none = so .none;
-      within = so .within;
-    }
+    carried-on = entered s start i b small (omega (arith, so .reached)) (so .carried) e
 
     -- The wrong bits of the window are those of the place that is looked at.
-    here-wrong : start + 31 ≤ i * 8 + b → ones (bitXor next 0x1ACFFC1D) ≡ wrongBits True s (start + looked)
-    here-wrong late =
+    here-wrong : ones (bitXor next 0x1ACFFC1D) ≡ wrongBits True s (start + looked)
+    here-wrong =
         let place : i * 8 + (b + 1) - 32 ≡ start + looked = omega arith in
         let held : next ≡ word 32 s (start + looked) = rw place at (window-here s start (i * 8 + (b + 1)) (omega arith) carried-on) in
         rw held (word-wrong s (start + looked))
 
-    module _ {form : Form} {wrong : ℕ} (late : start + 31 ≤ i * 8 + b) (left : looked ≡ budget → ⊥)
+    module _ {form : Form} {wrong : ℕ} (left : looked ≡ budget → ⊥)
         (near : (form ≡ nearer (ones (bitXor next 0x1ACFFC1D)) (32 - ones (bitXor next 0x1ACFFC1D)))
         × (wrong ≡ fewer (ones (bitXor next 0x1ACFFC1D)) (32 - ones (bitXor next 0x1ACFFC1D)))) where
       here : (form ≡ formAt s (start + looked)) × (wrong ≡ fewestWrong s (start + looked))
-      here = named-at s (start + looked) (here-wrong late) near
+      here = named-at s (start + looked) here-wrong near
 
       pub onward : tolerance < wrong → Sofar tolerance s start budget (i * 8 + (b + 1)) next (looked + 1)
       onward over = record {
@@ -137,10 +124,12 @@ module _ {tolerance : ℕ} {s : List ℕ} {start budget : ℕ} where
         affordable = omega arith;
       }
 
-  pub out-of-budget : (i b : ℕ) {window looked : ℕ} → b < 8 → Sofar tolerance s start budget (i * 8 + b) window looked → start + 31 ≤ i * 8 + b
-      → i < length s → looked ≡ budget → Stopped tolerance s start budget looked
-  out-of-budget i b small so late inside all =
+  pub out-of-budget : (i b : ℕ) {window looked : ℕ} → b < 8 → Sofar tolerance s start budget (i * 8 + b) window looked → i < length s → looked ≡ budget → Stopped tolerance s start budget looked
+  out-of-budget i b small so inside all =
       record { none = so .none; within = so .within; bounded = omega arith; why = inl all }
+
+  pub none-there : 8 * length s ≤ start + 31 → NoneLeft tolerance s start budget 0
+  none-there past = record { none = λ p l place. absurd (omega arith); counted = omega arith; affordable = omega arith }
 
   pub ended : {window looked : ℕ} → Sofar tolerance s start budget (length s * 8) window looked → Stopped tolerance s start budget looked
   ended so = record { none = so .none; within = so .within; bounded = omega arith; why = inr (omega arith) }

@@ -1,7 +1,7 @@
 -- The bits from a place on as a number, first bit highest: how it grows, splits and is put together from octets, and that the ones of its
 -- sum with the marker are the true form's wrong bits.
-use mathlib.Core.Path.{_≡_, refl, ap, _∙_}
-use mathlib.Core.List.{List}
+use mathlib.Core.Path.{_≡_, refl, sym, ap, _∙_, subst}
+use mathlib.Core.List.{List, [], _∷_}
 use Prim.Native.Nat.{ℕ, zero, suc, _+_, _-_, _*_, _/_, _%_, _^_, _≤_, _<_}
 use native.Mathlib.Nat.{add-comm, add-suc, add-zero, div-div-eq-div-mul, pow-suc, mul-assoc, zero-add}
 use native.Mathlib.Omega.{arith}
@@ -12,11 +12,7 @@ use Rattle.octets.specs.Bits.{bitAt}
 use Rattle.octets.proofs.Bits.{bit-of-octet}
 use Rattle.marker.specs.declared.Form.the-variants.{True}
 use Rattle.marker.specs.Place.{marker, wrongAmong, wrongBits}
-
--- The n bits from p on.
-unfoldable pub word : ℕ → List ℕ → ℕ → ℕ
-word zero s p = 0
-word (suc n) s p = word n s p * 2 + bitAt s (p + n)
+use Rattle.marker.specs.Working.{word}
 
 pub word-none : (s : List ℕ) (p : ℕ) → word 0 s p ≡ 0
 unfolding word
@@ -45,7 +41,7 @@ word-split m (suc n) s p =
 -- ---- octets
 
 -- The first j bits of an octet are what is left of it without the others.
-octet-front : (s : List ℕ) (i j : ℕ) → getD s i 0 < 256 → j ≤ 8 → word j s (i * 8) ≡ getD s i 0 / 2 ^ (8 - j)
+pub octet-front : (s : List ℕ) (i j : ℕ) → getD s i 0 < 256 → j ≤ 8 → word j s (i * 8) ≡ getD s i 0 / 2 ^ (8 - j)
 unfolding word
 octet-front s i zero h l = omega arith
 octet-front s i (suc j) h l =
@@ -55,26 +51,45 @@ octet-front s i (suc j) h l =
     let front : word j s (i * 8) ≡ getD s i 0 / 2 ^ (8 - j) = octet-front s i j h (omega arith) in
     rw (bit-of-octet s i j (omega arith), front, halved, less) (omega arith)
 
--- The bits of i octets and one more.
-octet-more : (s : List ℕ) (i : ℕ) → getD s i 0 < 256 → word (i * 8 + 8) s 0 ≡ word (i * 8) s 0 * 256 + getD s i 0
-octet-more s i h = rw (word-split (i * 8) 8 s 0, zero-add (i * 8), octet-front s i 8 h (omega arith)) (omega arith)
+-- A number moved up by n bits, of which 32 are kept, and n bits put in behind it.
+behind : (x n front : ℕ) → n ≤ 8 → front < 2 ^ n → x % 2 ^ 32 * 2 ^ n % 2 ^ 32 + front ≡ (x * 2 ^ n + front) % 2 ^ 32
+behind x zero front h l = omega arith
+behind x (suc zero) front h l = omega arith
+behind x (suc (suc zero)) front h l = omega arith
+behind x (suc (suc (suc zero))) front h l = omega arith
+behind x (suc (suc (suc (suc zero)))) front h l = omega arith
+behind x (suc (suc (suc (suc (suc zero))))) front h l = omega arith
+behind x (suc (suc (suc (suc (suc (suc zero)))))) front h l = omega arith
+behind x (suc (suc (suc (suc (suc (suc (suc zero))))))) front h l = omega arith
+behind x (suc (suc (suc (suc (suc (suc (suc (suc zero)))))))) front h l = omega arith
+behind x (suc (suc (suc (suc (suc (suc (suc (suc (suc n))))))))) front h l = absurd (omega arith)
+
+-- There is room for the first n bits of an octet.
+pub front-fits : (window octet n : ℕ) → window < 2 ^ 32 → octet < 256 → n ≤ 8 → window * 2 ^ n % 2 ^ 32 + octet / 2 ^ (8 - n) < 2 ^ 32
+front-fits window octet n w o h =
+    let small : octet / 2 ^ (8 - n) < 2 ^ n = subst (λ (x : ℕ). x < 2 ^ n) (octet-front (octet ∷ []) 0 n o h) (word-small n (octet ∷ []) 0) in
+    let whole : window % 2 ^ 32 ≡ window = omega arith in
+    let put = ap (λ (x : ℕ). x * 2 ^ n % 2 ^ 32 + octet / 2 ^ (8 - n)) (sym whole) ∙ behind window n (octet / 2 ^ (8 - n)) h small in
+    omega (arith, put)
+
+-- The first n bits of octet i enter behind those before it.
+pub front-enters : (s : List ℕ) (p k i n : ℕ) {window next : ℕ} → getD s i 0 < 256 → n ≤ 8 → p + k ≡ i * 8 → window ≡ word k s p % 2 ^ 32
+    → next ≡ window * 2 ^ n % 2 ^ 32 + getD s i 0 / 2 ^ (8 - n) → next ≡ word (k + n) s p % 2 ^ 32
+front-enters s p k i n {window} {next} octet h at old e =
+    e ∙ ap (λ (x : ℕ). x * 2 ^ n % 2 ^ 32 + getD s i 0 / 2 ^ (8 - n)) old
+    ∙ ap (λ (x : ℕ). word k s p % 2 ^ 32 * 2 ^ n % 2 ^ 32 + x) (sym (octet-front s i n octet h) ∙ ap (word n s) (sym at))
+    ∙ behind (word k s p) n (word n s (p + k)) h (word-small n s (p + k)) ∙ ap (λ (x : ℕ). x % 2 ^ 32) (sym (word-split k n s p))
 
 -- The four octets of the marker test, each entered behind the ones before.
-pub four-octets : (s : List ℕ) (a b c d : ℕ) → ((i : ℕ) → getD s i 0 < 256) → a ≡ 0 * 256 % 2 ^ 32 + getD s 0 0
-    → b ≡ a * 256 % 2 ^ 32 + getD s 1 0 → c ≡ b * 256 % 2 ^ 32 + getD s 2 0 → d ≡ c * 256 % 2 ^ 32 + getD s 3 0 → d ≡ word 32 s 0
+pub four-octets : (s : List ℕ) (a b c d : ℕ) → ((i : ℕ) → getD s i 0 < 256) → a ≡ 0 * 2 ^ 8 % 2 ^ 32 + getD s 0 0 / 2 ^ (8 - 8)
+    → b ≡ a * 2 ^ 8 % 2 ^ 32 + getD s 1 0 / 2 ^ (8 - 8) → c ≡ b * 2 ^ 8 % 2 ^ 32 + getD s 2 0 / 2 ^ (8 - 8) → d ≡ c * 2 ^ 8 % 2 ^ 32 + getD s 3 0 / 2 ^ (8 - 8)
+    → d ≡ word 32 s 0
 four-octets s a b c d small e f g h =
-    let none : word 0 s 0 ≡ 0 = word-none s 0 in
-    omega (
-      arith,
-      small 0,
-      small 1,
-      small 2,
-      small 3,
-      octet-more s 0 (small 0),
-      octet-more s 1 (small 1),
-      octet-more s 2 (small 2),
-      octet-more s 3 (small 3),
-    )
+    let none : 0 ≡ word 0 s 0 % 2 ^ 32 = omega (arith, word-none s 0) in
+    let one = front-enters s 0 0 0 8 (small 0) (omega arith) (omega arith) none e in
+    let two = front-enters s 0 8 1 8 (small 1) (omega arith) (omega arith) one f in
+    let three = front-enters s 0 16 2 8 (small 2) (omega arith) (omega arith) two g in
+    omega (arith, front-enters s 0 24 3 8 (small 3) (omega arith) (omega arith) three h, word-small 32 s 0)
 
 -- ---- the ones
 

@@ -1,4 +1,5 @@
--- Eight counts at once, one in each octet of a number: those of the eight places that begin in one octet of a stream.
+-- What contracts inside the search speak of: the window that is carried from bit to bit; and eight counts at once, one in each octet of a number, of the eight
+-- places that begin in one octet of a stream.
 use mathlib.Core.Path.{_≡_}
 use mathlib.Core.Bool.{cond}
 use mathlib.Core.List.{List}
@@ -9,6 +10,21 @@ use lib.ListN.{length, getD}
 use Rattle.octets.specs.Bits.{bitAt}
 use Rattle.marker.specs.declared.Form.the-variants.{True}
 use Rattle.marker.specs.Place.{marker, wrongBits, Fits}
+
+-- The n bits from p on as a number, first bit highest.
+unfoldable pub word : ℕ → List ℕ → ℕ → ℕ
+word zero s p = 0
+word (suc n) s p = word n s p * 2 + bitAt s (p + n)
+
+-- The first bit of the octet in which the start lies: from it on bits enter the window.
+abbrev pub base : ℕ → ℕ
+base start = start / 8 * 8
+
+-- The window before bit q: the last 32 of the bits that entered.
+abbrev pub Carried : List ℕ → ℕ → ℕ → ℕ → Type 0
+Carried s start q window = window ≡ word (q - base start) s (base start) % 2 ^ 32
+
+-- ---- eight places at once
 
 -- The first n values of f, one in each octet of a number, the first in the lowest.
 unfoldable pub lanes : ℕ → (ℕ → ℕ) → ℕ

@@ -102,14 +102,11 @@ fn skipped_of_four(table: &[u64; 1280], tolerance: u32, stream: &[u8], i: usize)
     skipped_singly(table, tolerance, stream, i, i + 4)
 }
 
-// The first octet from `first` on in which a place that fits begins, or `end`. For a few octets the table does not pay: they are left to the caller.
+// The first octet from `first` on in which a place that fits begins, or `end`.
 pub(crate) fn skipped(tolerance: u32, stream: &[u8], first: usize, end: usize) -> usize
     requires { ⌜ (tolerance ≤ 3) × (first ≤ end) × (end + 4 ≤ length (now stream)) × (length (now stream) ≤ 65536) ⌝ }
     ensures { λ r. ⌜ (first ≤ r) × (r ≤ end) × NoneFits tolerance (now (stream .entry)) (8 * first) (8 * r) ⌝ }
 {
-    if end - first < 64 {
-        return first;
-    }
     let table = octet_table();
     let mut i = first;
     while i + 4 <= end {

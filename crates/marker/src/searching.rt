@@ -1,6 +1,5 @@
 // The search for the marker at every bit of a stream.
 ghost use mathlib.Core.Path.{_≡_};
-ghost use mathlib.Core.Bool.{true};
 ghost use Prim.Native.Nat.{_+_, _-_, _*_, _≤_};
 ghost use lib.ListN.{length};
 ghost use Rattle.marker.specs.Place.{NoneFits, remaining};
@@ -12,6 +11,12 @@ use refusals::Verdict;
 
 // No stream has more places.
 const MOST: u64 = 524288;
+
+// A marker is mostly where it is expected: the places of so many octets are looked at before a table is made for those behind them,
+const NEAR: usize = 16;
+
+// and only if there are so many of these.
+const PAYS: usize = 32;
 
 // Octets whose eight places, and those before them, are all places of the stream and within the budget.
 fn whole_octets(octets: usize, start: u64, budget: u64) -> usize
@@ -32,41 +37,11 @@ fn whole_octets(octets: usize, start: u64, budget: u64) -> usize
     last
 }
 
-// Whether bit by bit none of the next n places fits.
-fn none_of(tolerance: u32, stream: &[u8], start: u64, n: u64) -> bool
-    requires { ⌜ (tolerance ≤ 3) × (length (now stream) ≤ 65536) × (start ≤ 8 * length (now stream)) ⌝ }
-    ensures { λ r. ⌜ (r ≡ true → NoneFits tolerance (now (stream .entry)) start (start + n)) ⌝ }
-{
-    match walk(tolerance, stream, start, n) {
-        Searched::Spent {
-            place: _,
-            looked: _,
-        } => true,
-        _ => false,
-    }
-}
-
-// How many places need not be looked at bit by bit: those up to an octet's beginning, and those of the octets from there on in which none fits.
-fn passed(tolerance: u32, stream: &[u8], start: u64, budget: u64) -> u64
-    requires { ⌜ (tolerance ≤ 3) × (length (now stream) ≤ 65536) × (start ≤ 8 * length (now stream)) ⌝ }
-    ensures { λ r. ⌜ (r ≤ budget) × (r ≤ remaining (now (stream .entry)) start) × NoneFits tolerance (now (stream .entry)) start (start + r) ⌝ }
-{
-    let first = ((start + 7) / 8) as usize;
-    let end = whole_octets(stream.len(), start, budget);
-    if end <= first {
-        return 0;
-    }
-    if !none_of(tolerance, stream, start, 8 * (first as u64) - start) {
-        return 0;
-    }
-    8 * (skipped(tolerance, stream, first, end) as u64) - start
-}
-
-fn look(tolerance: u32, stream: &[u8], start: u64, budget: u64) -> Searched
-    requires { ⌜ (tolerance ≤ 3) × (length (now stream) ≤ 65536) × (start ≤ 8 * length (now stream)) ⌝ }
+// The walk goes on behind the first `before` places, none of which fits.
+fn walk_on(tolerance: u32, stream: &[u8], start: u64, budget: u64, before: u64) -> Searched
+    requires { ⌜ (tolerance ≤ 3) × (length (now stream) ≤ 65536) × (start ≤ 8 * length (now stream)) × (before ≤ budget) × (before ≤ remaining (now stream) start) × NoneFits tolerance (now stream) start (start + before) ⌝ }
     ensures { λ r. ⌜ Looked tolerance (now (stream .entry)) start budget r ⌝ }
 {
-    let before = passed(tolerance, stream, start, budget);
     match walk(tolerance, stream, start + before, budget - before) {
         Searched::Found {
             place,
@@ -88,6 +63,27 @@ fn look(tolerance: u32, stream: &[u8], start: u64, budget: u64) -> Searched
         },
         Searched::Refused(p) => Searched::Refused(p),
     }
+}
+
+// The first places bit by bit, up to an octet's beginning; then the octets in which none fits are passed over.
+fn look(tolerance: u32, stream: &[u8], start: u64, budget: u64) -> Searched
+    requires { ⌜ (tolerance ≤ 3) × (length (now stream) ≤ 65536) × (start ≤ 8 * length (now stream)) ⌝ }
+    ensures { λ r. ⌜ Looked tolerance (now (stream .entry)) start budget r ⌝ }
+{
+    let first = ((start + 7) / 8) as usize + NEAR;
+    let end = whole_octets(stream.len(), start, budget);
+    if end < first + PAYS {
+        return walk(tolerance, stream, start, budget);
+    }
+    let near = walk(tolerance, stream, start, 8 * (first as u64) - start);
+    if let Searched::Spent {
+        place: _,
+        looked: _,
+    } = near {
+        let octet = skipped(tolerance, stream, first, end);
+        return walk_on(tolerance, stream, start, budget, 8 * (octet as u64) - start);
+    }
+    near
 }
 
 pub fn search(tolerance: u32, stream: &[u8], start: u64, budget: u64) -> Searched

@@ -5,8 +5,8 @@ ghost use Rattle.marker.specs.Place.{formAt, fewestWrong};
 ghost use Rattle.marker.specs.Outcome.{TestOutcome};
 use crate::Tested;
 use crate::window::Near;
+use crate::window::front_entered;
 use crate::window::nearer_form;
-use crate::window::octet_entered;
 use refusals::MarkerRefusal;
 use refusals::Verdict;
 
@@ -14,8 +14,8 @@ fn nearer_in(octets: &[u8]) -> Near
     requires { ⌜ length (now octets) ≡ 4 ⌝ }
     ensures { λ r. ⌜ (r .form ≡ formAt (now (octets .entry)) 0) × (r .wrong ≡ fewestWrong (now (octets .entry)) 0) ⌝ }
 {
-    let half = octet_entered(octet_entered(0, octets[0]), octets[1]);
-    nearer_form(octet_entered(octet_entered(half, octets[2]), octets[3]))
+    let half = front_entered(front_entered(0, octets[0], 8), octets[1], 8);
+    nearer_form(front_entered(front_entered(half, octets[2], 8), octets[3], 8))
 }
 
 pub fn test(tolerance: u32, octets: &[u8]) -> Tested

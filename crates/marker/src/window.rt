@@ -1,6 +1,6 @@
 // The 32 received bits at a place as a number, first bit highest, its wrong bits and the form that it is nearer to.
 ghost use mathlib.Core.Path.{_≡_};
-ghost use Prim.Native.Nat.{_+_, _-_, _*_, _/_, _%_, _^_, _<_};
+ghost use Prim.Native.Nat.{_+_, _-_, _*_, _/_, _%_, _^_, _≤_, _<_};
 ghost use lib.Bits.{bitXor};
 ghost use lib.Count.{ones};
 ghost use Rattle.marker.specs.Place.{nearer, fewer};
@@ -46,9 +46,10 @@ pub(crate) fn bit_entered(window: u32, octet: u8, b: usize) -> u32
     (window << 1) + ((octet >> (7 - b)) % 2) as u32
 }
 
-// The window moved on by a whole octet.
-pub(crate) fn octet_entered(window: u32, octet: u8) -> u32
-    ensures { λ r. ⌜ r ≡ window * 256 % 2 ^ 32 + octet ⌝ }
+// The window moved on by the first n bits of an octet.
+pub(crate) fn front_entered(window: u32, octet: u8, n: usize) -> u32
+    requires { ⌜ n ≤ 8 ⌝ }
+    ensures { λ r. ⌜ r ≡ window * 2 ^ n % 2 ^ 32 + octet / 2 ^ (8 - n) ⌝ }
 {
-    (window << 8) + octet as u32
+    (window << n) + (octet as u32 >> (8 - n))
 }

@@ -13,12 +13,6 @@ Inv-loop tolerance stream first end table i₀ i = (first ≤ i) × (i ≤ end) 
 abbrev μ-loop : tie.MeasureT-loop
 μ-loop tolerance stream first end table i₀ i = end - i
 
-sub-if1 : tie.Need-sub-if1 Inv-loop μ-loop
-sub-if1 c = search needs
-
-returns : tie.Need-returns Inv-loop μ-loop
-returns c = (omega arith, omega arith, λ p from below. absurd (omega arith))
-
 octet-table-requires : tie.Need-octet-table-requires Inv-loop μ-loop
 octet-table-requires c κs = search needs
 
@@ -31,11 +25,11 @@ add-loop c = search needs
 skipped-of-four-requires : tie.Need-skipped-of-four-requires Inv-loop μ-loop
 skipped-of-four-requires c κs = search needs
 
-add-if2 : tie.Need-add-if2 Inv-loop μ-loop
-add-if2 c = search needs
+add-if1 : tie.Need-add-if1 Inv-loop μ-loop
+add-if1 c = search needs
 
-returns-2 : tie.Need-returns-2 Inv-loop μ-loop
-returns-2 c =
+returns : tie.Need-returns Inv-loop μ-loop
+returns c =
     let four = c .before .skipped-of-four .ensures in
     (omega arith, omega arith, none-joined _ _ _ _ _ (c .before .before .before .before .loop .inv .2) (four .2))
 
@@ -54,8 +48,8 @@ loop-again c =
 skipped-singly-requires : tie.Need-skipped-singly-requires Inv-loop μ-loop
 skipped-singly-requires c κs = search needs
 
-returns-3 : tie.Need-returns-3 Inv-loop μ-loop
-returns-3 c =
+returns-2 : tie.Need-returns-2 Inv-loop μ-loop
+returns-2 c =
     let rest = c .skipped-singly .ensures in
     (omega arith, omega arith, none-joined _ _ _ _ _ (c .before .before .before .loop .inv .2) (rest .2))
 
@@ -65,16 +59,14 @@ skipped-spec =
     (tie.spec
     Inv-loop
     μ-loop
-    sub-if1
-    returns
     octet-table-requires
     loop-holds
     add-loop
     skipped-of-four-requires
-    add-if2
-    returns-2
+    add-if1
+    returns
     add-i
     loop-less
     loop-again
     skipped-singly-requires
-    returns-3)
+    returns-2)

@@ -1,94 +1,101 @@
--- `look` answers what the walk from the first place not passed answers, with the places passed counted.
+-- `look` answers what the walk over the first places answers, unless that spends its budget; then none of them fits, nor any place of the octets passed over.
+use mathlib.Core.Path.{_≡_, subst}
+use mathlib.Core.List.{[], _∷_}
+use Prim.Native.Nat.{ℕ}
 use native.Mathlib.Omega.{arith}
-use Rattle.marker.proofs.Passing.{no-refusal, found-later, absent-later, spent-later}
+use denote.Enum.Declared.{tagOf}
+use types.Run.{OneOf, miss}
+use Rattle.marker.specs.declared.Searched.{Searched}
+use Rattle.marker.specs.declared.Searched.the-variants.{Spent}
+use Rattle.marker.proofs.Searched.{the-type}
+use Rattle.marker.proofs.Passing.{none-joined, none-spent, more-budget}
 use borrow.Author.Needs.{needs}
 use Rattle.marker.proofs.searching.look.Statement.{statement}
 use Rattle.marker.proofs.searching.look.Tie as tie
 
-passed-requires : tie.Need-passed-requires
-passed-requires c κs = search needs
+-- What is not matched as spent is not that.
+unspent : (answer : Searched) → OneOf (0 ∷ 1 ∷ 3 ∷ []) (tagOf the-type answer) → (next looked : ℕ) → answer ≡ Spent next looked → ⊥
+unspent answer other next looked e = miss (0 ∷ 1 ∷ 3 ∷ []) 2 tt (subst (λ (a : Searched). OneOf (0 ∷ 1 ∷ 3 ∷ []) (tagOf the-type a)) e other)
 
-add-walk : tie.Need-add-walk
-add-walk c = search needs
+add-first : tie.Need-add-first
+add-first c = search needs
 
-sub-walk : tie.Need-sub-walk
-sub-walk c = search needs
+add-first-2 : tie.Need-add-first-2
+add-first-2 c = search needs
+
+whole-octets-requires : tie.Need-whole-octets-requires
+whole-octets-requires c κs = search needs
+
+add-if1 : tie.Need-add-if1
+add-if1 c = search needs
 
 walk-requires : tie.Need-walk-requires
 walk-requires c κs = search needs
 
-enum-known-place : tie.Need-enum-known-place
-enum-known-place c = search needs
-
-add-t18 : tie.Need-add-t18
-add-t18 c =
-    let a = c .before .before .before .before .before .before .args in
-    let front = c .before .before .before .before .passed .ensures in
-    let seen = found-later (a .tolerance) (a .stream .now) (front .0) (front .1) (front .2) _ (c .before .place .given .1) (c .before .before .before .walk .ensures) in
-    omega (arith, seen .counted, seen .inside)
-
-enum-known-looked : tie.Need-enum-known-looked
-enum-known-looked c = search needs
-
-add-t19 : tie.Need-add-t19
-add-t19 c =
-    let a = c .before .before .before .before .before .before .args in
-    let front = c .before .before .before .before .passed .ensures in
-    let seen = absent-later (a .tolerance) (a .stream .now) (front .0) (front .1) (front .2) _ (c .before .looked .given .1) (c .before .before .before .walk .ensures) in
-    omega (arith, seen .counted)
-
-enum-known-place-2 : tie.Need-enum-known-place-2
-enum-known-place-2 c = search needs
-
-add-t20 : tie.Need-add-t20
-add-t20 c =
-    let a = c .before .before .before .before .before .before .args in
-    let front = c .before .before .before .before .passed .ensures in
-    let seen = spent-later (a .tolerance) (a .stream .now) (front .0) (front .1) (front .2) _ (c .before .place2 .given .1) (c .before .before .before .walk .ensures) in
-    omega (arith, seen .counted, seen .inside)
-
-enum-known-p : tie.Need-enum-known-p
-enum-known-p c = search needs
-
 returns : tie.Need-returns
-returns c =
-    let a = c .before .before .before .before .before .before .args in
-    let front = c .before .before .before .before .passed .ensures in
-    found-later (a .tolerance) (a .stream .now) (front .0) (front .1) (front .2) _ (c .before .place .given .1) (c .before .before .before .walk .ensures)
+returns c = search needs
+
+mul-walk : tie.Need-mul-walk
+mul-walk c = search needs
+
+sub-walk : tie.Need-sub-walk
+sub-walk c = search needs
+
+walk-requires-2 : tie.Need-walk-requires-2
+walk-requires-2 c κs = search needs
+
+enum-told : tie.Need-enum-told
+enum-told c = search needs
+
+skipped-requires : tie.Need-skipped-requires
+skipped-requires c κs = search needs
+
+mul-walk-on : tie.Need-mul-walk-on
+mul-walk-on c = search needs
+
+sub-walk-on : tie.Need-sub-walk-on
+sub-walk-on c = search needs
+
+walk-on-requires : tie.Need-walk-on-requires
+walk-on-requires c κs =
+    let a = c .before .before .before .before .before .before .before .args in
+    let front = none-spent (a .tolerance) (a .stream .now) (a .start) _ _ (c .before .enum-told .given .1) (c .before .before .before .walk2 .ensures) in
+    let whole = c .before .before .before .before .before .whole-octets .ensures in (
+      omega arith,
+      omega arith,
+      omega arith,
+      omega (arith, whole .0, c .skipped .ensures .1),
+      omega (arith, whole .1, c .skipped .ensures .1),
+      λ p from before. none-joined (a .tolerance) (a .stream .now) (a .start) _ _ (λ m l h. front m l (omega arith)) (c .skipped .ensures .2) p from (omega arith),
+    )
 
 returns-2 : tie.Need-returns-2
-returns-2 c =
-    let a = c .before .before .before .before .before .before .args in
-    let front = c .before .before .before .before .passed .ensures in
-    absent-later (a .tolerance) (a .stream .now) (front .0) (front .1) (front .2) _ (c .before .looked .given .1) (c .before .before .before .walk .ensures)
+returns-2 c = search needs
 
 returns-3 : tie.Need-returns-3
 returns-3 c =
-    let a = c .before .before .before .before .before .before .args in
-    let front = c .before .before .before .before .passed .ensures in
-    spent-later (a .tolerance) (a .stream .now) (front .0) (front .1) (front .2) _ (c .before .place2 .given .1) (c .before .before .before .walk .ensures)
-
-returns-4 : tie.Need-returns-4
-returns-4 c =
-    let a = c .before .before .before .before .before .before .args in
-    no-refusal (a .tolerance) (a .stream .now) _ _ _ (c .before .p .given .1) (c .before .before .before .walk .ensures)
+    let a = c .before .before .before .before .before .args in
+    let near = c .before .walk2 in
+    more-budget (a .tolerance) (a .stream .now) (a .start) _ (a .budget) (near .result) (near .ensures) (unspent (near .result) (c .match .keys2))
+    (omega (arith, c .before .before .before .whole-octets .ensures .0))
 
 pub look-spec : {M : Type 1} → statement M
 look-spec =
     tie.close
     (tie.spec
-    passed-requires
-    add-walk
-    sub-walk
+    add-first
+    add-first-2
+    whole-octets-requires
+    add-if1
     walk-requires
-    enum-known-place
-    add-t18
-    enum-known-looked
-    add-t19
-    enum-known-place-2
-    add-t20
-    enum-known-p
     returns
+    mul-walk
+    sub-walk
+    walk-requires-2
+    enum-told
+    skipped-requires
+    mul-walk-on
+    sub-walk-on
+    walk-on-requires
     returns-2
-    returns-3
-    returns-4)
+    returns-3)

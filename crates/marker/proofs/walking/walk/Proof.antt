@@ -5,30 +5,42 @@ use mathlib.Core.Logic.{⊎-elim}
 use Prim.Native.Nat.{_≤_, _-_, _<_, _+_, _*_}
 use native.Mathlib.Omega.{arith}
 use lib.ListN.{length}
-use Rattle.marker.proofs.Sofar.{Sofar, Stopped, begins, moved, skipped, onward, found, out-of-budget, ended, spent, absent}
+use Rattle.marker.proofs.Sofar.{Sofar, Stopped, begins, moved, onward, found, out-of-budget, none-there, ended, spent, absent}
 use borrow.Author.Needs.{needs}
 use Rattle.marker.proofs.walking.walk.Statement.{statement}
 use Rattle.marker.proofs.walking.walk.Tie as tie
 
 abbrev Inv-loop : tie.InvT-loop
-Inv-loop tolerance stream start budget octets first window₀ looked₀ i b₀ window looked b =
+Inv-loop tolerance stream start budget octets first window₀ from looked₀ i b₀ window looked b =
     (b ≤ 8) × (i < octets) × (octets ≡ length stream) × Sofar tolerance stream start budget (i * 8 + b) window looked
 
 abbrev μ-loop : tie.MeasureT-loop
-μ-loop tolerance stream start budget octets first window₀ looked₀ i b₀ window looked b = 8 - b
+μ-loop tolerance stream start budget octets first window₀ from looked₀ i b₀ window looked b = 8 - b
 
 abbrev Inv-octets : tie.InvT-octets
-Inv-octets tolerance stream start budget octets first window₀ looked₀ i₀ window looked i =
-    (i ≤ octets) × (octets ≡ length stream) × Sofar tolerance stream start budget (i * 8) window looked
+Inv-octets tolerance stream start budget octets first window₀ from₀ looked₀ i₀ window from looked i =
+    (i ≤ octets) × (octets ≡ length stream) × (from < 8) × (i * 8 + from ≤ octets * 8) × Sofar tolerance stream start budget (i * 8 + from) window looked
 
 abbrev μ-octets : tie.MeasureT-octets
-μ-octets tolerance stream start budget octets first window₀ looked₀ i₀ window looked i = octets - i
+μ-octets tolerance stream start budget octets first window₀ from₀ looked₀ i₀ window from looked i = octets - i
+
+add-first : tie.Need-add-first Inv-loop μ-loop Inv-octets μ-octets
+add-first c = search needs
+
+returns : tie.Need-returns Inv-loop μ-loop Inv-octets μ-octets
+returns c = none-there (omega arith)
+
+window-before-requires : tie.Need-window-before-requires Inv-loop μ-loop Inv-octets μ-octets
+window-before-requires c κs = search needs
+
+add-from : tie.Need-add-from Inv-loop μ-loop Inv-octets μ-octets
+add-from c = search needs
 
 octets-holds : tie.Need-octets-holds Inv-loop μ-loop Inv-octets μ-octets
-octets-holds c = (omega arith, refl, begins)
+octets-holds c = (omega arith, refl, omega arith, omega arith, moved (omega arith) (begins (c .window-before .ensures)))
 
 loop-holds : tie.Need-loop-holds Inv-loop μ-loop Inv-octets μ-octets
-loop-holds c = (omega arith, omega arith, refl, moved (omega arith) (c .before .octets .inv .2))
+loop-holds c = (omega arith, omega arith, refl, c .before .octets .inv .4)
 
 shared-slice-read-bit-entered :
     tie.Need-shared-slice-read-bit-entered Inv-loop μ-loop Inv-octets μ-octets
@@ -37,14 +49,24 @@ shared-slice-read-bit-entered c = search needs
 bit-entered-requires : tie.Need-bit-entered-requires Inv-loop μ-loop Inv-octets μ-octets
 bit-entered-requires c κs = search needs
 
-mul-if1 : tie.Need-mul-if1 Inv-loop μ-loop Inv-octets μ-octets
-mul-if1 c = search needs
+nearer-form-requires : tie.Need-nearer-form-requires Inv-loop μ-loop Inv-octets μ-octets
+nearer-form-requires c κs = search needs
 
-add-if1 : tie.Need-add-if1 Inv-loop μ-loop Inv-octets μ-octets
-add-if1 c = search needs
+add-t23 : tie.Need-add-t23 Inv-loop μ-loop Inv-octets μ-octets
+add-t23 c = search needs
 
-add-if1-2 : tie.Need-add-if1-2 Inv-loop μ-loop Inv-octets μ-octets
-add-if1-2 c = search needs
+add-t24 : tie.Need-add-t24 Inv-loop μ-loop Inv-octets μ-octets
+add-t24 c = search needs
+
+returns-2 : tie.Need-returns-2 Inv-loop μ-loop Inv-octets μ-octets
+returns-2 c =
+    let entered = c .before .before .before in
+    let turn = entered .before .before in
+    found _ _ (turn .loop-test .taken) (turn .before .loop .inv .3) (entered .bit-entered .ensures)
+    (c .before .before .if2 .left) (c .before .nearer-form .ensures) (omega arith) (omega arith)
+
+add-looked : tie.Need-add-looked Inv-loop μ-loop Inv-octets μ-octets
+add-looked c = search needs
 
 add-b : tie.Need-add-b Inv-loop μ-loop Inv-octets μ-octets
 add-b c = search needs
@@ -57,43 +79,9 @@ loop-again c = (
   omega arith,
   omega arith,
   refl,
-  let turn = c .before .before .before in
-      skipped _ _ (turn .loop-test .taken) (turn .before .loop .inv .3) (c .before .bit-entered .ensures) (c .if1 .taken),
-)
-
-nearer-form-requires : tie.Need-nearer-form-requires Inv-loop μ-loop Inv-octets μ-octets
-nearer-form-requires c κs = search needs
-
-add-t24 : tie.Need-add-t24 Inv-loop μ-loop Inv-octets μ-octets
-add-t24 c = search needs
-
-add-t25 : tie.Need-add-t25 Inv-loop μ-loop Inv-octets μ-octets
-add-t25 c = search needs
-
-returns : tie.Need-returns Inv-loop μ-loop Inv-octets μ-octets
-returns c =
-    let tested = c .before .before .before in
-    let turn = tested .before .before .before in
-    found _ _ (turn .loop-test .taken) (turn .before .loop .inv .3) (tested .before .bit-entered .ensures) (tested .if1 .left)
-    (c .before .before .if2 .left) (c .before .nearer-form .ensures) (omega arith) (omega arith)
-
-add-looked : tie.Need-add-looked Inv-loop μ-loop Inv-octets μ-octets
-add-looked c = search needs
-
-add-b-2 : tie.Need-add-b-2 Inv-loop μ-loop Inv-octets μ-octets
-add-b-2 c = search needs
-
-loop-less-2 : tie.Need-loop-less-2 Inv-loop μ-loop Inv-octets μ-octets
-loop-less-2 c = search needs
-
-loop-again-2 : tie.Need-loop-again-2 Inv-loop μ-loop Inv-octets μ-octets
-loop-again-2 c = (
-  omega arith,
-  omega arith,
-  refl,
-  let tested = c .before .before .before in
-      let turn = tested .before .before .before in
-      onward _ _ (turn .loop-test .taken) (turn .before .loop .inv .3) (tested .before .bit-entered .ensures) (tested .if1 .left)
+  let entered = c .before .before .before in
+      let turn = entered .before .before in
+      onward _ _ (turn .loop-test .taken) (turn .before .loop .inv .3) (entered .bit-entered .ensures)
       (c .before .before .if2 .left) (c .before .nearer-form .ensures) (c .if3 .left),
 )
 
@@ -104,18 +92,18 @@ octets-less : tie.Need-octets-less Inv-loop μ-loop Inv-octets μ-octets
 octets-less c = search needs
 
 octets-again : tie.Need-octets-again Inv-loop μ-loop Inv-octets μ-octets
-octets-again c = (omega arith, refl, moved (omega arith) (c .before .loop .inv .3))
+octets-again c = (omega arith, refl, omega arith, omega arith, moved (omega arith) (c .before .loop .inv .3))
 
 -- Both ways out at which nothing was found.
 abbrev StoppedAt : (c : tie.Left-octets Inv-loop μ-loop Inv-octets μ-octets) → Type 0
 StoppedAt c =
-    let given = c .before .before .before .args in
+    let given = c .before .before .before .before .before .args in
     Stopped (given .tolerance) (given .stream .now) (given .start) (given .budget) (c .octets-test .looked)
 
 stopped : (c : tie.Left-octets Inv-loop μ-loop Inv-octets μ-octets) → StoppedAt c
 stopped c =
-    ⊎-elim (λ w. rw (w .2) (ended (moved (omega arith) (c .before .octets .inv .2))))
-    (λ w. rw (w .8) (out-of-budget _ _ (w .2 .taken) (w .1 .inv .3) (w .5 .left) (omega arith) (w .6 .taken)))
+    ⊎-elim (λ w. rw (w .2) (ended (moved (omega arith) (c .before .octets .inv .4))))
+    (λ w. rw (w .7) (out-of-budget _ _ (w .2 .taken) (w .1 .inv .3) (omega arith) (w .5 .taken)))
     (c .octets-test .came)
 
 add-next : tie.Need-add-next Inv-loop μ-loop Inv-octets μ-octets
@@ -127,11 +115,11 @@ add-if4 c = omega (arith, stopped c .bounded)
 mul-if4 : tie.Need-mul-if4 Inv-loop μ-loop Inv-octets μ-octets
 mul-if4 c = search needs
 
-returns-2 : tie.Need-returns-2 Inv-loop μ-loop Inv-octets μ-octets
-returns-2 c = spent (stopped (c .before)) (c .if4 .taken)
-
 returns-3 : tie.Need-returns-3 Inv-loop μ-loop Inv-octets μ-octets
-returns-3 c = absent (stopped (c .before)) (c .if4 .left)
+returns-3 c = spent (stopped (c .before)) (c .if4 .taken)
+
+returns-4 : tie.Need-returns-4 Inv-loop μ-loop Inv-octets μ-octets
+returns-4 c = absent (stopped (c .before)) (c .if4 .left)
 
 pub walk-spec : {M : Type 1} → statement M
 walk-spec =
@@ -141,29 +129,27 @@ walk-spec =
     μ-loop
     Inv-octets
     μ-octets
+    add-first
+    returns
+    window-before-requires
+    add-from
     octets-holds
     loop-holds
     shared-slice-read-bit-entered
     bit-entered-requires
-    mul-if1
-    add-if1
-    add-if1-2
+    nearer-form-requires
+    add-t23
+    add-t24
+    returns-2
+    add-looked
     add-b
     loop-less
     loop-again
-    nearer-form-requires
-    add-t24
-    add-t25
-    returns
-    add-looked
-    add-b-2
-    loop-less-2
-    loop-again-2
     add-i
     octets-less
     octets-again
     add-next
     add-if4
     mul-if4
-    returns-2
-    returns-3)
+    returns-3
+    returns-4)
