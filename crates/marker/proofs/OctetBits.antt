@@ -1,4 +1,4 @@
--- The wrong bits of the eight places that begin in an octet: each is counted in one of five octets.
+-- The wrong bits of the eight places that begin in an octet, and those of them that are counted in the three octets behind it.
 use mathlib.Core.Path.{_≡_, refl, sym, ap, ap₂, _∙_}
 use mathlib.Core.List.{List}
 use Prim.Native.Nat.{ℕ, zero, suc, _+_, _-_, _*_, _/_, _%_, _^_, _≤_, _<_}
@@ -15,7 +15,7 @@ use Rattle.octets.proofs.Bits.{bit-of-octet}
 use Rattle.marker.specs.declared.Form.{Form}
 use Rattle.marker.specs.declared.Form.the-variants.{True, Complement}
 use Rattle.marker.specs.Place.{marker, wrongAmong, wrongBits}
-use Rattle.marker.specs.Working.{wrongBit, wrongOf, trueWrong, commonWrong}
+use Rattle.marker.specs.Working.{wrongBit, wrongOf, commonWrong}
 use Rattle.marker.proofs.Forms.{differ-other, both-forms}
 
 -- ---- one bit
@@ -91,10 +91,6 @@ module _ (b : ℕ) (s : List ℕ) (i : ℕ) where
   up-inside (suc n) h =
       ap (wrongUpTo b s i) (add-suc b n) ∙ omega (arith, up-inside n (omega arith), bit-inside b n (bitAt s (8 * i + (b + n))) h, ap (λ (p : ℕ). differ (bitAt s p) (bitAt marker n)) (add-assoc (8 * i) b n))
 
-  up-after : (n : ℕ) → wrongUpTo b s i (b + 32 + n) ≡ wrongBits True s (8 * i + b)
-  up-after zero = ap (λ (m : ℕ). wrongUpTo b s i m) (add-zero (b + 32)) ∙ up-inside 32 (omega arith)
-  up-after (suc n) = ap (wrongUpTo b s i) (add-suc (b + 32) n) ∙ omega (arith, up-after n, bit-after b (b + 32 + n) (bitAt s (8 * i + (b + 32 + n))) (omega arith))
-
   -- the first n bits of octet k
   up-octet : (k n : ℕ) → n ≤ 8 → wrongUpTo b s i (8 * k + n) ≡ wrongUpTo b s i (8 * k) + wrongOf b (8 * k) n (getD s (i + k) 0 / 2 ^ (8 - n))
   unfolding wrongOf
@@ -112,18 +108,9 @@ module _ (b : ℕ) (s : List ℕ) (i : ℕ) where
       let all : getD s (i + k) 0 / 2 ^ 0 ≡ getD s (i + k) 0 = omega arith in
       ap (wrongUpTo b s i) next ∙ up-octet k 8 (omega arith) ∙ ap (λ (y : ℕ). wrongUpTo b s i (8 * k) + wrongOf b (8 * k) 8 y) all
 
-  -- a place's 32 bits lie in five octets
-  pub five-octets : b < 8
-      → trueWrong s i b ≡ commonWrong s i b + wrongOf b 0 8 (getD s i 0) + wrongOf b 32 8 (getD s (i + 4) 0)
-  unfolding trueWrong commonWrong
-  five-octets h =
-      let end : b + 32 + (8 - b) ≡ 40 = omega arith in
-      sym (up-after (8 - b)) ∙ ap (wrongUpTo b s i) end
-      ∙ omega (arith, whole-octet 0, whole-octet 1, whole-octet 2, whole-octet 3, whole-octet 4, ap (λ (n : ℕ). wrongOf b 0 8 (getD s n 0)) (add-zero i))
-
   -- the octets that all eight places have whole are 24 of the 32 bits
-  pub common-bounds : b < 8 → (commonWrong s i b ≤ trueWrong s i b) × (24 ≤ wrongBits Complement s (8 * i + b) + commonWrong s i b)
-  unfolding trueWrong commonWrong
+  pub common-bounds : b < 8 → (commonWrong s i b ≤ wrongBits True s (8 * i + b)) × (24 ≤ wrongBits Complement s (8 * i + b) + commonWrong s i b)
+  unfolding commonWrong
   common-bounds h =
       let p = 8 * i + b in
       let some : wrongUpTo b s i 8 ≡ wrongAmong True (8 - b) s p = ap (wrongUpTo b s i) (up b 8 (omega arith)) ∙ up-inside (8 - b) (omega arith) in
@@ -136,10 +123,6 @@ module _ (b : ℕ) (s : List ℕ) (i : ℕ) where
     where
       up : (x y : ℕ) → x ≤ y → y ≡ x + (y - x)
       up x y l = omega arith
-
-  pub true-most : trueWrong s i b ≤ 32
-  unfolding trueWrong
-  true-most = omega (arith, both-forms 32 s (8 * i + b))
 
   pub common-most : commonWrong s i b ≤ 24
   unfolding commonWrong

@@ -1,4 +1,4 @@
--- What octets add to eight counts, by their halves and by a table; and that five octets give the counts.
+-- What octets add to eight counts, by their halves and by a table; and that three octets give the counts.
 use mathlib.Core.Path.{_≡_, sym, ap, ap₂, _∙_}
 use mathlib.Core.List.{List}
 use Prim.Native.Nat.{ℕ, _+_, _*_, _/_, _%_, _^_, _≤_, _<_}
@@ -6,29 +6,29 @@ use native.Mathlib.Decide.{ℕ-discrete}
 use native.Mathlib.Omega.{arith}
 use lib.ListN.{length, getD, set, length-set}
 use lib.Seq.{getD-set-same, getD-set-other}
-use Rattle.marker.specs.Working.{lanes, wrongOf, halfAdds, octetAdds, Filled, trueWrong, commonWrong}
+use Rattle.marker.specs.Working.{lanes, wrongOf, halfAdds, octetAdds, Filled, commonWrong}
 use Rattle.marker.proofs.Packed.{lanes-sum, lanes-same, lanes-most}
-use Rattle.marker.proofs.OctetBits.{of-most, of-parts, five-octets, common-most, true-most}
+use Rattle.marker.proofs.OctetBits.{of-most, of-parts, common-most}
 
 -- ---- what octets and their halves add
 
-half-is : (h a : ℕ) → a < 16 → halfAdds (16 * h + a) ≡ lanes 8 (λ b. wrongOf b (4 * h) 4 a)
+half-is : (h a : ℕ) → a < 16 → halfAdds (16 * h + a) ≡ lanes 8 (λ b. wrongOf b (8 + 4 * h) 4 a)
 unfolding halfAdds
 half-is h a l =
     let which : (16 * h + a) / 16 ≡ h = omega arith in
     let value : (16 * h + a) % 16 ≡ a = omega arith in
-    ap₂ (λ (x y : ℕ). lanes 8 (λ b. wrongOf b (4 * x) 4 y)) which value
+    ap₂ (λ (x y : ℕ). lanes 8 (λ b. wrongOf b (8 + 4 * x) 4 y)) which value
 
-octet-is : (k x : ℕ) → x < 256 → octetAdds (256 * k + x) ≡ lanes 8 (λ b. wrongOf b (8 * k) 8 x)
+octet-is : (k x : ℕ) → x < 256 → octetAdds (256 * k + x) ≡ lanes 8 (λ b. wrongOf b (8 + 8 * k) 8 x)
 unfolding octetAdds
 octet-is k x l =
     let which : (256 * k + x) / 256 ≡ k = omega arith in
     let value : (256 * k + x) % 256 ≡ x = omega arith in
-    ap₂ (λ (u v : ℕ). lanes 8 (λ b. wrongOf b (8 * u) 8 v)) which value
+    ap₂ (λ (u v : ℕ). lanes 8 (λ b. wrongOf b (8 + 8 * u) 8 v)) which value
 
 pub octet-most : {r : ℕ} (n : ℕ) → r ≡ octetAdds n → r ≤ 8 * 0x0101010101010101
 unfolding octetAdds
-octet-most n e = rw e (lanes-most 8 _ (λ b l. of-most b (8 * (n / 256)) 8 (n % 256)))
+octet-most n e = rw e (lanes-most 8 _ (λ b l. of-most b (8 + 8 * (n / 256)) 8 (n % 256)))
 
 -- The octet with a high and a low half; rows of sixteen, one for each high half of each octet.
 octet-halves : (row low : ℕ) → low < 16 → halfAdds (32 * (row / 16) + row % 16) + halfAdds (32 * (row / 16) + 16 + low) ≡ octetAdds (16 * row + low)
@@ -39,13 +39,13 @@ octet-halves row low h =
     let high : x / 2 ^ 4 ≡ a = omega arith in
     let rest : x % 2 ^ 4 ≡ low = omega arith in
     ap₂ _+_ (ap halfAdds (omega arith) ∙ half-is (2 * k) a (omega arith)) (ap halfAdds (omega arith) ∙ half-is (2 * k + 1) low h)
-    ∙ lanes-sum 8 (λ b. wrongOf b (4 * (2 * k)) 4 a) (λ b. wrongOf b (4 * (2 * k + 1)) 4 low)
-    ∙ lanes-same 8 _ (λ b. wrongOf b (8 * k) 8 x)
-    (λ b l. ap₂ _+_ (ap₂ (λ (m y : ℕ). wrongOf b m 4 y) (omega arith) (sym high)) (ap₂ (λ (m y : ℕ). wrongOf b m 4 y) (omega arith) (sym rest)) ∙ sym (of-parts b (8 * k) 4 4 x))
+    ∙ lanes-sum 8 (λ b. wrongOf b (8 + 4 * (2 * k)) 4 a) (λ b. wrongOf b (8 + 4 * (2 * k + 1)) 4 low)
+    ∙ lanes-same 8 _ (λ b. wrongOf b (8 + 8 * k) 8 x)
+    (λ b l. ap₂ _+_ (ap₂ (λ (m y : ℕ). wrongOf b m 4 y) (omega arith) (sym high)) (ap₂ (λ (m y : ℕ). wrongOf b m 4 y) (omega arith) (sym rest)) ∙ sym (of-parts b (8 + 8 * k) 4 4 x))
     ∙ sym (octet-is k x (omega arith))
     ∙ ap octetAdds (omega arith)
 
-pub row-sum : {halves : List ℕ} (row low : ℕ) → row < 80 → low < 16 → Filled halfAdds 160 halves 160
+pub row-sum : {halves : List ℕ} (row low : ℕ) → row < 48 → low < 16 → Filled halfAdds 96 halves 96
     → getD halves (32 * (row / 16) + row % 16) 0 + getD halves (32 * (row / 16) + 16 + low) 0 ≡ octetAdds (16 * row + low)
 row-sum row low h l F = ap₂ _+_ (F .each (32 * (row / 16) + row % 16) (omega arith)) (F .each (32 * (row / 16) + 16 + low) (omega arith)) ∙ octet-halves row low l
 
@@ -70,23 +70,15 @@ filled-turn f most list count value room is F =
 -- ---- the counts of eight places
 
 -- One octet more is counted.
-with-octet : (k : ℕ) (f : ℕ → ℕ) (octet : ℕ) {sum more : ℕ} → octet < 256 → sum ≡ lanes 8 f → more ≡ octetAdds (256 * k + octet) → sum + more ≡ lanes 8 (λ b. f b + wrongOf b (8 * k) 8 octet)
-with-octet k f octet h e m = ap₂ _+_ e (m ∙ octet-is k octet h) ∙ lanes-sum 8 f (λ b. wrongOf b (8 * k) 8 octet)
+with-octet : (k : ℕ) (f : ℕ → ℕ) (octet : ℕ) {sum more : ℕ} → octet < 256 → sum ≡ lanes 8 f → more ≡ octetAdds (256 * k + octet) → sum + more ≡ lanes 8 (λ b. f b + wrongOf b (8 + 8 * k) 8 octet)
+with-octet k f octet h e m = ap₂ _+_ e (m ∙ octet-is k octet h) ∙ lanes-sum 8 f (λ b. wrongOf b (8 + 8 * k) 8 octet)
 
 module _ (s : List ℕ) (i : ℕ) where
   pub common-are : {v w x : ℕ} → ((n : ℕ) → getD s n 0 < 256)
-      → v ≡ octetAdds (256 * 1 + getD s (i + 1) 0) → w ≡ octetAdds (256 * 2 + getD s (i + 2) 0) → x ≡ octetAdds (256 * 3 + getD s (i + 3) 0)
+      → v ≡ octetAdds (256 * 0 + getD s (i + 1) 0) → w ≡ octetAdds (256 * 1 + getD s (i + 2) 0) → x ≡ octetAdds (256 * 2 + getD s (i + 3) 0)
       → v + w + x ≡ lanes 8 (commonWrong s i)
   unfolding commonWrong
-  common-are octets v w x = with-octet 3 _ _ (octets (i + 3)) (with-octet 2 _ _ (octets (i + 2)) (v ∙ octet-is 1 _ (octets (i + 1))) w) x
-
-  pub counts-are : {common v w : ℕ} → ((n : ℕ) → getD s n 0 < 256)
-      → common ≡ lanes 8 (commonWrong s i) → v ≡ octetAdds (256 * 0 + getD s i 0) → w ≡ octetAdds (256 * 4 + getD s (i + 4) 0)
-      → common + v + w ≡ lanes 8 (trueWrong s i)
-  counts-are octets common v w = with-octet 4 _ _ (octets (i + 4)) (with-octet 0 _ _ (octets i) common v) w ∙ lanes-same 8 _ _ (λ b h. sym (five-octets b s i h))
+  common-are octets v w x = with-octet 2 _ _ (octets (i + 3)) (with-octet 1 _ _ (octets (i + 2)) (v ∙ octet-is 0 _ (octets (i + 1))) w) x
 
   pub common-sum : {counts : ℕ} → counts ≡ lanes 8 (commonWrong s i) → counts ≤ 24 * 0x0101010101010101
   common-sum e = rw e (lanes-most 24 _ (λ b h. common-most b s i))
-
-  pub counts-sum : {counts : ℕ} → counts ≡ lanes 8 (trueWrong s i) → counts ≤ 32 * 0x0101010101010101
-  counts-sum e = rw e (lanes-most 32 _ (λ b h. true-most b s i))

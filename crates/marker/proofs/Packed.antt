@@ -71,27 +71,25 @@ tops-kept x kept =
     tops-of-both x 0x8080808080808080
     (λ b l. ap (λ (z : ℕ). z / 2 ^ (8 * b + 7) % 2) kept ∙ equal-below (λ n. 0x8080808080808080 / 2 ^ (8 * n + 7) % 2) (λ n. 1) 8 tt b l) .0
 
--- ---- counts of at most so many bits
+-- ---- counts of at most 24 bits
 
--- One that reaches 128 with 127 - t added, and does not with 128 - bits + t, is above t and its rest is too.
-between : (bits t count : ℕ) → t ≤ 3 → 7 ≤ bits → bits ≤ 32 → count ≤ bits
-    → ((count + (127 - t)) / 128 % 2 ≡ (count + (128 - bits + t)) / 128 % 2 → ⊥) → (t < count) × (count + t < bits)
-between bits t count few some many most apart = (
+-- One that reaches 128 with 127 - t added, and does not with 104 + t, is above t and its rest is too.
+between : (t count : ℕ) → t ≤ 3 → count ≤ 24 → ((count + (127 - t)) / 128 % 2 ≡ (count + (104 + t)) / 128 % 2 → ⊥) → (t < count) × (count + t < 24)
+between t count few most apart = (
   elim (decLt t count) [ yes l ↦ l | no l ↦ absurd (apart (both 0 (omega arith) (omega arith))) ],
-  elim (decLt (count + t) bits) [ yes l ↦ l | no l ↦ absurd (apart (both 1 (omega arith) (omega arith))) ],
+  elim (decLt (count + t) 24) [ yes l ↦ l | no l ↦ absurd (apart (both 1 (omega arith) (omega arith))) ],
 )
   where
-    both : (bit : ℕ) → (count + (127 - t)) / 128 ≡ bit → (count + (128 - bits + t)) / 128 ≡ bit → (count + (127 - t)) / 128 % 2 ≡ (count + (128 - bits + t)) / 128 % 2
+    both : (bit : ℕ) → (count + (127 - t)) / 128 ≡ bit → (count + (104 + t)) / 128 ≡ bit → (count + (127 - t)) / 128 % 2 ≡ (count + (104 + t)) / 128 % 2
     both bit low high = ap (λ (x : ℕ). x % 2) (low ∙ sym high)
 
-pub apart-tells : (bits t : ℕ) (f : ℕ → ℕ) {counts tops : ℕ} → t ≤ 3 → 7 ≤ bits → bits ≤ 32 → ((b : ℕ) → b < 8 → f b ≤ bits)
-    → counts ≡ lanes 8 f → tops ≡ topsApart bits t counts
-    → (b : ℕ) → b < 8 → tops / 2 ^ (8 * b + 7) % 2 ≡ 1 → (t < f b) × (f b + t < bits)
+pub apart-tells : (t : ℕ) (f : ℕ → ℕ) {counts tops : ℕ} → t ≤ 3 → ((b : ℕ) → b < 8 → f b ≤ 24) → counts ≡ lanes 8 f → tops ≡ topsApart t counts
+    → (b : ℕ) → b < 8 → tops / 2 ^ (8 * b + 7) % 2 ≡ 1 → (t < f b) × (f b + t < 24)
 unfolding topsApart
-apart-tells bits t f {counts} few some many most e is b l set =
-    between bits t (f b) few some many (most b l)
-    (λ same. differ-set (counts + (127 - t) * 0x0101010101010101) (counts + (128 - bits + t) * 0x0101010101010101) (8 * b + 7) (rw is at set)
-    (top (127 - t) (omega arith) ∙ same ∙ sym (top (128 - bits + t) (omega arith))))
+apart-tells t f {counts} few most e is b l set =
+    between t (f b) few (most b l)
+    (λ same. differ-set (counts + (127 - t) * 0x0101010101010101) (counts + (104 + t) * 0x0101010101010101) (8 * b + 7) (rw is at set)
+    (top (127 - t) (omega arith) ∙ same ∙ sym (top (104 + t) (omega arith))))
   where
     top : (c : ℕ) → c ≤ 127 → (counts + c * 0x0101010101010101) / 2 ^ (8 * b + 7) % 2 ≡ (f b + c) / 128 % 2
     top c h =

@@ -5,13 +5,13 @@ use Prim.Native.Nat.{ℕ, _+_, _-_, _*_, _≤_, _<_}
 use native.Mathlib.Decide.{decLt}
 use native.Mathlib.Omega.{arith}
 use lib.Bits.{bitAnd}
-use Rattle.marker.specs.declared.Form.the-variants.{Complement}
+use Rattle.marker.specs.declared.Form.the-variants.{True, Complement}
 use Rattle.marker.specs.Place.{wrongBits, fewer, fewestWrong, NoneFits}
-use Rattle.marker.specs.Working.{lanes, trueWrong, commonWrong, topsApart, TopsTell}
-use Rattle.marker.proofs.Forms.{both-forms, nearer-true, nearer-complement}
+use Rattle.marker.specs.Working.{lanes, commonWrong, topsApart, TopsTell}
+use Rattle.marker.proofs.Forms.{nearer-true, nearer-complement}
 use Rattle.marker.proofs.Packed.{AllTops, tops-of-both, apart-tells}
 use Rattle.marker.proofs.Passing.{none-joined}
-use Rattle.marker.proofs.OctetBits.{common-bounds, common-most, true-most}
+use Rattle.marker.proofs.OctetBits.{common-bounds, common-most}
 
 fewer-above : (t a b : ℕ) → t < a → t < b → fewer a b ≤ t → ⊥
 fewer-above t a b h k few =
@@ -21,18 +21,11 @@ fewer-above t a b h k few =
     ]
 
 module _ {t : ℕ} (s : List ℕ) (i : ℕ) (few : t ≤ 3) where
-  pub counts-tell : {counts tops : ℕ} → counts ≡ lanes 8 (trueWrong s i) → tops ≡ topsApart 32 t counts → TopsTell t s i tops
-  unfolding trueWrong
-  counts-tell e is b l set =
-      let apart : (t < trueWrong s i b) × (trueWrong s i b + t < 32) = apart-tells 32 t (trueWrong s i) few (omega arith) (omega arith) (λ k h. true-most k s i) e is b l set in
-      fewer-above t (trueWrong s i b) (wrongBits Complement s (8 * i + b)) (apart .0) (omega (arith, both-forms 32 s (8 * i + b)))
-
-  pub common-tell : {counts tops : ℕ} → counts ≡ lanes 8 (commonWrong s i) → tops ≡ topsApart 24 t counts → TopsTell t s i tops
-  unfolding trueWrong
+  pub common-tell : {counts tops : ℕ} → counts ≡ lanes 8 (commonWrong s i) → tops ≡ topsApart t counts → TopsTell t s i tops
   common-tell e is b l set =
-      let apart : (t < commonWrong s i b) × (commonWrong s i b + t < 24) = apart-tells 24 t (commonWrong s i) few (omega arith) (omega arith) (λ k h. common-most k s i) e is b l set in
+      let apart : (t < commonWrong s i b) × (commonWrong s i b + t < 24) = apart-tells t (commonWrong s i) few (λ k h. common-most k s i) e is b l set in
       let bounds = common-bounds b s i l in
-      fewer-above t (trueWrong s i b) (wrongBits Complement s (8 * i + b)) (omega (arith, bounds .0)) (omega (arith, bounds .1))
+      fewer-above t (wrongBits True s (8 * i + b)) (wrongBits Complement s (8 * i + b)) (omega (arith, bounds .0)) (omega (arith, bounds .1))
 
 module _ (t : ℕ) (s : List ℕ) where
   pub none-in-octet : (i tops : ℕ) → AllTops tops → TopsTell t s i tops → NoneFits t s (8 * i) (8 * (i + 1))

@@ -8,8 +8,7 @@ use lib.Bits.{differ, bitXor}
 use lib.Dec.{leb, ltb}
 use lib.ListN.{length, getD}
 use Rattle.octets.specs.Bits.{bitAt}
-use Rattle.marker.specs.declared.Form.the-variants.{True}
-use Rattle.marker.specs.Place.{marker, wrongBits, Fits}
+use Rattle.marker.specs.Place.{marker, Fits}
 
 -- The n bits from p on as a number, first bit highest.
 unfoldable pub word : ℕ → List ℕ → ℕ → ℕ
@@ -40,28 +39,27 @@ unfoldable pub wrongOf : ℕ → ℕ → ℕ → ℕ → ℕ
 wrongOf b m zero x = 0
 wrongOf b m (suc n) x = wrongOf b m n (x / 2) + wrongBit b (m + n) (x % 2)
 
--- What half octets add to the eight counts, sixteen values for each of the ten halves of five octets; and octets, 256 values for each of the five.
+-- What half octets add to the eight counts, sixteen values for each of the six halves of the three octets behind that in which the places begin; and octets, 256
+-- values for each of the three.
 unfoldable pub halfAdds : ℕ → ℕ
-halfAdds n = lanes 8 (λ b. wrongOf b (4 * (n / 16)) 4 (n % 16))
+halfAdds n = lanes 8 (λ b. wrongOf b (8 + 4 * (n / 16)) 4 (n % 16))
 
 unfoldable pub octetAdds : ℕ → ℕ
-octetAdds n = lanes 8 (λ b. wrongOf b (8 * (n / 256)) 8 (n % 256))
+octetAdds n = lanes 8 (λ b. wrongOf b (8 + 8 * (n / 256)) 8 (n % 256))
 
 -- The first elements of a list, which holds at most so many, are the values of f.
 pub record Filled (f : ℕ → ℕ) (most : ℕ) (list : List ℕ) (count : ℕ) : Type 0 where
   pub size : length list ≡ most
   pub each : (n : ℕ) → n < count → getD list n 0 ≡ f n
 
--- The wrong bits of the true marker at place b of the eight that begin in octet i; and those of them that lie in the three octets after it, which each of the places has whole.
-unfoldable pub trueWrong : List ℕ → ℕ → ℕ → ℕ
-trueWrong stream i b = wrongBits True stream (8 * i + b)
-
+-- Of the wrong bits of the true marker at place b of the eight that begin in octet i, those that lie in the three octets behind it, which each of the places has
+-- whole.
 unfoldable pub commonWrong : List ℕ → ℕ → ℕ → ℕ
 commonWrong stream i b = wrongOf b 8 8 (getD stream (i + 1) 0) + wrongOf b 16 8 (getD stream (i + 2) 0) + wrongOf b 24 8 (getD stream (i + 3) 0)
 
--- Eight counts of wrong bits among so many: the top bits tell which counts, and which of their rests, are above the tolerance.
-unfoldable pub topsApart : ℕ → ℕ → ℕ → ℕ
-topsApart bits tolerance counts = bitXor (counts + (127 - tolerance) * 0x0101010101010101) (counts + (128 - bits + tolerance) * 0x0101010101010101)
+-- Eight counts of wrong bits among 24: the top bits tell which counts, and which of their rests, are above the tolerance.
+unfoldable pub topsApart : ℕ → ℕ → ℕ
+topsApart tolerance counts = bitXor (counts + (127 - tolerance) * 0x0101010101010101) (counts + (104 + tolerance) * 0x0101010101010101)
 
 -- The top bit of an octet is set only if its place, of the eight that begin in octet i, does not fit.
 abbrev pub TopsTell : ℕ → List ℕ → ℕ → ℕ → Type 0

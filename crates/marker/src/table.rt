@@ -1,42 +1,10 @@
-// What each octet adds to the eight counts of the places that begin in one octet: a table, built from what half octets add.
+// What each octet adds to the eight counts of the places that begin in one octet, of the three octets behind it: a table, built from what half octets add.
 ghost use mathlib.Core.Path.{_≡_};
 ghost use Prim.Native.Nat.{_+_, _*_, _<_};
 ghost use Rattle.marker.specs.Working.{halfAdds, octetAdds, Filled};
 
-// What half octets add to the eight counts: sixteen values for each of the ten halves of five octets, an octet's high half first.
-const HALVES: [u64; 160] = [
-    0x0000000000000001,
-    0x0000000001010100,
-    0x0000000000010102,
-    0x0000000001020201,
-    0x0000000000000102,
-    0x0000000001010201,
-    0x0000000000010203,
-    0x0000000001020302,
-    0x0000000000000002,
-    0x0000000001010101,
-    0x0000000000010103,
-    0x0000000001020202,
-    0x0000000000000103,
-    0x0000000001010202,
-    0x0000000000010204,
-    0x0000000001020303,
-    0x0000000102020302,
-    0x0101010001030203,
-    0x0001010201010401,
-    0x0102020100020302,
-    0x0000010203010203,
-    0x0101020102020104,
-    0x0001020302000302,
-    0x0102030201010203,
-    0x0000000203030201,
-    0x0101010102040102,
-    0x0001010302020300,
-    0x0102020201030201,
-    0x0000010304020102,
-    0x0101020203030003,
-    0x0001020403010201,
-    0x0102030302020102,
+// What half octets add to the eight counts: sixteen values for each of the six halves of three octets, an octet's high half first.
+const HALVES: [u64; 96] = [
     0x0202030202030202,
     0x0103020301020303,
     0x0101040103020103,
@@ -133,50 +101,18 @@ const HALVES: [u64; 160] = [
     0x0203030203020200,
     0x0203030403020002,
     0x0304040302010101,
-    0x0203030302010100,
-    0x0102040202010100,
-    0x0102020401010100,
-    0x0001030301010100,
-    0x0302020203000100,
-    0x0201030103000100,
-    0x0201010302000100,
-    0x0100020202000100,
-    0x0304020201020000,
-    0x0203030101020000,
-    0x0203010300020000,
-    0x0102020200020000,
-    0x0403010102010000,
-    0x0302020002010000,
-    0x0302000201010000,
-    0x0201010101010000,
-    0x0201010000000000,
-    0x0201010000000000,
-    0x0101010000000000,
-    0x0101010000000000,
-    0x0300010000000000,
-    0x0300010000000000,
-    0x0200010000000000,
-    0x0200010000000000,
-    0x0102000000000000,
-    0x0102000000000000,
-    0x0002000000000000,
-    0x0002000000000000,
-    0x0201000000000000,
-    0x0201000000000000,
-    0x0101000000000000,
-    0x0101000000000000,
 ];
 
-fn half_list() -> [u64; 160]
-    ensures { λ r. ⌜ Filled halfAdds 160 r 160 ⌝ }
+fn half_list() -> [u64; 96]
+    ensures { λ r. ⌜ Filled halfAdds 96 r 96 ⌝ }
 {
     HALVES
 }
 
 // The sixteen octets with one high half; rows 16 k on are those of the k-th octet.
-fn fill_row(table: &mut [u64], halves: &[u64; 160], row: usize)
-    requires { ⌜ (row < 80) × Filled halfAdds 160 (now halves) 160 × Filled octetAdds 1280 (now table) (16 * row) ⌝ }
-    ensures { λ _. ⌜ Filled octetAdds 1280 (now (table .exit)) (16 * row + 16) ⌝ }
+fn fill_row(table: &mut [u64], halves: &[u64; 96], row: usize)
+    requires { ⌜ (row < 48) × Filled halfAdds 96 (now halves) 96 × Filled octetAdds 768 (now table) (16 * row) ⌝ }
+    ensures { λ _. ⌜ Filled octetAdds 768 (now (table .exit)) (16 * row + 16) ⌝ }
 {
     let first = 32 * (row / 16);
     let high = halves[first + row % 16];
@@ -185,21 +121,21 @@ fn fill_row(table: &mut [u64], halves: &[u64; 160], row: usize)
     }
 }
 
-// What octets add, 256 values for each of five. Built in each call: 1,280 constants would be stored one by one.
-pub(crate) fn octet_table() -> [u64; 1280]
-    ensures { λ r. ⌜ Filled octetAdds 1280 r 1280 ⌝ }
+// What octets add, 256 values for each of five. Built in each call: 768 constants would be stored one by one.
+pub(crate) fn octet_table() -> [u64; 768]
+    ensures { λ r. ⌜ Filled octetAdds 768 r 768 ⌝ }
 {
     let halves = half_list();
-    let mut table = [0u64; 1280];
-    for row in 0..80 {
+    let mut table = [0u64; 768];
+    for row in 0..48 {
         fill_row(&mut table, &halves, row);
     }
     table
 }
 
-// What one octet adds to the eight counts, the k-th from that in which the places begin.
-pub(crate) fn added(table: &[u64; 1280], k: usize, octet: u8) -> u64
-    requires { ⌜ (k < 5) × Filled octetAdds 1280 (now table) 1280 ⌝ }
+// What one octet adds to the eight counts, the k-th of the three.
+pub(crate) fn added(table: &[u64; 768], k: usize, octet: u8) -> u64
+    requires { ⌜ (k < 3) × Filled octetAdds 768 (now table) 768 ⌝ }
     ensures { λ r. ⌜ r ≡ octetAdds (256 * k + octet) ⌝ }
 {
     table[256 * k + octet as usize]

@@ -1,7 +1,8 @@
--- `skipped` goes on by four octets as long as no place that fits begins in them, and then one by one.
+-- `skipped` goes on behind the octets passed, and behind those in which bit by bit no place fits.
 use Prim.Native.Nat.{_≤_, _-_, _*_}
 use native.Mathlib.Omega.{arith}
 use borrow.Author.Needs.{needs}
+use borrow.Author.Tests.{not-false}
 use Rattle.marker.specs.Place.{NoneFits}
 use Rattle.marker.proofs.Passing.{none-joined}
 use Rattle.marker.proofs.lanes.skipped.Statement.{statement}
@@ -19,39 +20,35 @@ octet-table-requires c κs = search needs
 loop-holds : tie.Need-loop-holds Inv-loop μ-loop
 loop-holds c = (omega arith, omega arith, λ p from below. absurd (omega arith))
 
-add-loop : tie.Need-add-loop Inv-loop μ-loop
-add-loop c = search needs
+passed-requires : tie.Need-passed-requires Inv-loop μ-loop
+passed-requires c κs = search needs
 
-skipped-of-four-requires : tie.Need-skipped-of-four-requires Inv-loop μ-loop
-skipped-of-four-requires c κs = search needs
+next-of-requires : tie.Need-next-of-requires Inv-loop μ-loop
+next-of-requires c κs = search needs
 
-add-if1 : tie.Need-add-if1 Inv-loop μ-loop
-add-if1 c = search needs
+none-fits-requires : tie.Need-none-fits-requires Inv-loop μ-loop
+none-fits-requires c κs = search needs
 
 returns : tie.Need-returns Inv-loop μ-loop
 returns c =
-    let four = c .before .skipped-of-four .ensures in
-    (omega arith, omega arith, none-joined _ _ _ _ _ (c .before .before .before .before .loop .inv .2) (four .2))
-
-add-i : tie.Need-add-i Inv-loop μ-loop
-add-i c = search needs
+    let front = c .before .before .before .before .before .before .loop .inv .2 in
+    let near = c .before .before .before .passed .ensures in
+    (omega arith, near .1, none-joined _ _ _ _ _ front (near .2))
 
 loop-less : tie.Need-loop-less Inv-loop μ-loop
 loop-less c = search needs
 
 loop-again : tie.Need-loop-again Inv-loop μ-loop
 loop-again c =
-    let four = c .before .skipped-of-four .ensures in
-    let passed = none-joined _ _ _ _ _ (c .before .before .before .before .loop .inv .2) (four .2) in
-    (omega arith, omega arith, λ p from below. passed p from (omega arith))
-
-skipped-singly-requires : tie.Need-skipped-singly-requires Inv-loop μ-loop
-skipped-singly-requires c κs = search needs
+    let front = c .before .before .before .before .before .before .loop .inv .2 in
+    let near = c .before .before .before .passed .ensures in
+    let none = c .before .none-fits .ensures (not-false _ (c .if1 .left)) in
+    (omega arith, c .before .before .next-of .ensures .1, none-joined _ _ _ _ _ (none-joined _ _ _ _ _ front (near .2)) none)
 
 returns-2 : tie.Need-returns-2 Inv-loop μ-loop
 returns-2 c =
-    let rest = c .skipped-singly .ensures in
-    (omega arith, omega arith, none-joined _ _ _ _ _ (c .before .before .before .loop .inv .2) (rest .2))
+    let front = c .before .loop .inv .2 in
+    (omega arith, omega arith, λ p from below. front p from (omega arith))
 
 pub skipped-spec : {M : Type 1} → statement M
 skipped-spec =
@@ -61,12 +58,10 @@ skipped-spec =
     μ-loop
     octet-table-requires
     loop-holds
-    add-loop
-    skipped-of-four-requires
-    add-if1
+    passed-requires
+    next-of-requires
+    none-fits-requires
     returns
-    add-i
     loop-less
     loop-again
-    skipped-singly-requires
     returns-2)

@@ -14,9 +14,6 @@ mul-result c = search needs
 add-result : tie.Need-add-result
 add-result c = search needs
 
-sub-result-2 : tie.Need-sub-result-2
-sub-result-2 c = search needs
-
 add-result-2 : tie.Need-add-result-2
 add-result-2 c = search needs
 
@@ -37,7 +34,6 @@ tops-apart-spec =
     sub-result
     mul-result
     add-result
-    sub-result-2
     add-result-2
     mul-result-2
     add-result-3

@@ -1,4 +1,4 @@
--- `added` reads the table, which has 256 entries for each of five octets.
+-- `added` reads the table, which has 256 entries for each of three octets.
 use native.Mathlib.Omega.{arith}
 use borrow.Author.Needs.{needs}
 use Rattle.marker.proofs.table.added.Statement.{statement}

@@ -10,7 +10,7 @@ use Rattle.marker.proofs.table.fill_row.Statement.{statement}
 use Rattle.marker.proofs.table.fill_row.Tie as tie
 
 abbrev Inv-loop : tie.InvT-loop
-Inv-loop table₀ halves row first high low₀ table low = (low ≤ 16) × (length table ≡ length table₀) × Filled octetAdds 1280 table (16 * row + low)
+Inv-loop table₀ halves row first high low₀ table low = (low ≤ 16) × (length table ≡ length table₀) × Filled octetAdds 768 table (16 * row + low)
 
 abbrev μ-loop : tie.MeasureT-loop
 μ-loop table₀ halves row first high low₀ table low = 16 - low

@@ -7,7 +7,7 @@ use Rattle.marker.proofs.table.half_list.Tie as tie
 
 returns : tie.Need-returns
 unfolding lanes wrongBit wrongOf halfAdds
-returns c = record { size = refl; each = equal-below _ _ 160 tt }
+returns c = record { size = refl; each = equal-below _ _ 96 tt }
 
 pub half-list-spec : {M : Type 1} → statement M
 half-list-spec = tie.close (tie.spec returns)

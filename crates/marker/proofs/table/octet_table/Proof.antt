@@ -9,10 +9,10 @@ use Rattle.marker.proofs.table.octet_table.Statement.{statement}
 use Rattle.marker.proofs.table.octet_table.Tie as tie
 
 abbrev Inv-loop : tie.InvT-loop
-Inv-loop halves table₀ row₀ table row = (row ≤ 80) × Filled octetAdds 1280 table (16 * row)
+Inv-loop halves table₀ row₀ table row = (row ≤ 48) × Filled octetAdds 768 table (16 * row)
 
 abbrev μ-loop : tie.MeasureT-loop
-μ-loop halves table₀ row₀ table row = 80 - row
+μ-loop halves table₀ row₀ table row = 48 - row
 
 half-list-requires : tie.Need-half-list-requires Inv-loop μ-loop
 half-list-requires c κs = search needs
