@@ -1,11 +1,12 @@
 -- The two forms of the marker: together their wrong bits are 32, the form named has the fewer, and never both fit.
 use mathlib.Core.Path.{_≡_, refl, sym, _∙_}
 use mathlib.Core.List.{List, [], _∷_}
-use Prim.Native.Nat.{ℕ, zero, suc, _+_, _-_, _≤_, _<_}
+use Prim.Native.Nat.{ℕ, zero, suc, _+_, _-_, _*_, _%_, _^_, _≤_, _<_}
 use native.Mathlib.Decide.{decLt}
 use native.Mathlib.Omega.{arith}
 use borrow.Author.Tests.{le-leb, lt-leb}
 use lib.Bits.{differ}
+use lib.Dec.{leb}
 use Rattle.octets.specs.Bits.{bitAt}
 use Rattle.marker.specs.declared.Form.{Form}
 use Rattle.marker.specs.declared.Form.the-variants.{True, Complement}
@@ -46,6 +47,24 @@ nearer-few n few = let near = nearer-true n (32 - n) (omega arith) in (sym (near
 
 pub nearer-many : (n : ℕ) → 16 < n → (Complement ≡ nearer n (32 - n)) × (32 - n ≡ fewer n (32 - n))
 nearer-many n many = let near = nearer-complement n (32 - n) (omega arith) in (sym (near .0), sym (near .1))
+
+-- The same of one test: a count less one more than the tolerance wraps round if it is at most the tolerance.
+pub near-wrapped : (n t wrapped : ℕ) → n ≤ 32 → t ≤ 3 → wrapped < 2 ^ 32 → (wrapped + (t + 1)) % 2 ^ 32 ≡ n → leb (31 - 2 * t) wrapped ≡ leb (fewer n (32 - n)) t
+near-wrapped n t wrapped most few small wraps =
+    elim (decLt 16 n) [
+      | yes many ↦
+          let near = nearer-many n many .1 in
+          elim (decLt t (32 - n)) [
+            | yes over ↦ lt-leb (31 - 2 * t) wrapped (omega arith) ∙ sym (lt-leb (fewer n (32 - n)) t (omega (arith, near)))
+            | no within ↦ le-leb (31 - 2 * t) wrapped (omega arith) ∙ sym (le-leb (fewer n (32 - n)) t (omega (arith, near)))
+          ]
+      | no fewer-ones ↦
+          let near = nearer-few n (omega arith) .1 in
+          elim (decLt t n) [
+            | yes over ↦ lt-leb (31 - 2 * t) wrapped (omega arith) ∙ sym (lt-leb (fewer n (32 - n)) t (omega (arith, near)))
+            | no within ↦ le-leb (31 - 2 * t) wrapped (omega arith) ∙ sym (le-leb (fewer n (32 - n)) t (omega (arith, near)))
+          ]
+    ]
 
 -- ---- at a place
 

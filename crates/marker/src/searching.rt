@@ -13,7 +13,7 @@ use refusals::Verdict;
 const MOST: u64 = 524288;
 
 // A marker is mostly where it is expected: the places of so many octets are looked at before a table is made for those behind them,
-const NEAR: usize = 16;
+const NEAR: usize = 48;
 
 // and only if there are so many of these.
 const PAYS: usize = 32;

@@ -1,11 +1,17 @@
 // The search bit by bit: one place after the other.
-ghost use Prim.Native.Nat.{_+_, _*_, _≤_, _<_};
+ghost use mathlib.Core.Path.{_≡_};
+ghost use Prim.Native.Nat.{_+_, _-_, _*_, _≤_, _<_};
+ghost use lib.Bits.{bitXor};
+ghost use lib.Count.{ones};
 ghost use lib.ListN.{length};
+ghost use Rattle.marker.specs.Place.{nearer, fewer};
 ghost use Rattle.marker.specs.Working.{Carried};
 ghost use Rattle.marker.specs.Outcome.{Looked};
+ghost use Rattle.marker.specs.declared.Searched.the-variants.{Found};
 use crate::Searched;
 use crate::window::bit_entered;
 use crate::window::front_entered;
+use crate::window::is_near;
 use crate::window::nearer_form;
 
 // The window before the last bit of the first place, which is the first bit that is looked at.
@@ -19,6 +25,20 @@ fn window_before(stream: &[u8], start: u64) -> u32
         window = front_entered(window, stream[i], 8);
     }
     front_entered(window, stream[end], ((start + 31) % 8) as usize)
+}
+
+fn found(window: u32, place: u64, looked: u64) -> Searched
+    ensures { λ r. ⌜ r ≡ Found place (nearer (ones (bitXor window 0x1ACFFC1D)) (32 - ones (bitXor window 0x1ACFFC1D))) (fewer (ones (bitXor window 0x1ACFFC1D)) (32 - ones (bitXor window 0x1ACFFC1D))) looked ⌝ }
+{
+    let near = nearer_form(window);
+    let form = near.form;
+    let wrong = near.wrong;
+    Searched::Found {
+        place,
+        form,
+        wrong,
+        looked,
+    }
 }
 
 // The window is carried from bit to bit, so that a place costs one shift.
@@ -40,16 +60,8 @@ pub(crate) fn walk(tolerance: u32, stream: &[u8], start: u64, budget: u64) -> Se
             if looked == budget {
                 break 'octets;
             }
-            let near = nearer_form(window);
-            let form = near.form;
-            let wrong = near.wrong;
-            if wrong <= tolerance {
-                return Searched::Found {
-                    place: start + looked,
-                    form,
-                    wrong,
-                    looked: looked + 1,
-                };
+            if is_near(window, tolerance) {
+                return found(window, start + looked, looked + 1);
             }
             looked += 1;
         }

@@ -3,6 +3,7 @@ ghost use mathlib.Core.Path.{_≡_};
 ghost use Prim.Native.Nat.{_+_, _-_, _*_, _/_, _%_, _^_, _≤_, _<_};
 ghost use lib.Bits.{bitXor};
 ghost use lib.Count.{ones};
+ghost use lib.Dec.{leb};
 ghost use Rattle.marker.specs.Place.{nearer, fewer};
 use crate::Form;
 
@@ -13,6 +14,15 @@ pub(crate) fn wrong_bits(window: u32) -> u32
     ensures { λ r. ⌜ r ≡ ones (bitXor window 0x1ACFFC1D) ⌝ }
 {
     u32::count_ones(window ^ MARKER)
+}
+
+// Whether either form is within the tolerance, by one test: a count up to the tolerance, less one more than it, wraps round to a large number, and so comes above those
+// between, as one within the tolerance of 32 does.
+pub(crate) fn is_near(window: u32, tolerance: u32) -> bool
+    requires { ⌜ tolerance ≤ 3 ⌝ }
+    ensures { λ r. ⌜ r ≡ leb (fewer (ones (bitXor window 0x1ACFFC1D)) (32 - ones (bitXor window 0x1ACFFC1D))) tolerance ⌝ }
+{
+    std::num::wrapping_sub_u32(wrong_bits(window), tolerance + 1) >= 31 - 2 * tolerance
 }
 
 // A form, with its wrong bits.

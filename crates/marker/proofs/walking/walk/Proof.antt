@@ -1,12 +1,13 @@
 -- `walk` answers what it saw. Both loops keep `Sofar` before the next bit, i * 8 + b; the measures are the bits and the octets left.
 -- Where the loops are left and nothing was found, by the budget or at the end, `Stopped` holds, from which either answer follows.
-use mathlib.Core.Path.{_≡_, refl}
+use mathlib.Core.Path.{_≡_, refl, sym, _∙_}
 use mathlib.Core.Logic.{⊎-elim}
 use Prim.Native.Nat.{_≤_, _-_, _<_, _+_, _*_}
 use native.Mathlib.Omega.{arith}
 use lib.ListN.{length}
 use Rattle.marker.proofs.Sofar.{Sofar, Stopped, begins, moved, onward, found, out-of-budget, none-there, ended, spent, absent}
 use borrow.Author.Needs.{needs}
+use borrow.Author.Tests.{leb-true, leb-false}
 use Rattle.marker.proofs.walking.walk.Statement.{statement}
 use Rattle.marker.proofs.walking.walk.Tie as tie
 
@@ -49,21 +50,25 @@ shared-slice-read-bit-entered c = search needs
 bit-entered-requires : tie.Need-bit-entered-requires Inv-loop μ-loop Inv-octets μ-octets
 bit-entered-requires c κs = search needs
 
-nearer-form-requires : tie.Need-nearer-form-requires Inv-loop μ-loop Inv-octets μ-octets
-nearer-form-requires c κs = search needs
+is-near-requires : tie.Need-is-near-requires Inv-loop μ-loop Inv-octets μ-octets
+is-near-requires c κs = search needs
 
-add-t23 : tie.Need-add-t23 Inv-loop μ-loop Inv-octets μ-octets
-add-t23 c = search needs
+add-found : tie.Need-add-found Inv-loop μ-loop Inv-octets μ-octets
+add-found c = search needs
 
-add-t24 : tie.Need-add-t24 Inv-loop μ-loop Inv-octets μ-octets
-add-t24 c = search needs
+add-found-2 : tie.Need-add-found-2 Inv-loop μ-loop Inv-octets μ-octets
+add-found-2 c = search needs
+
+found-requires : tie.Need-found-requires Inv-loop μ-loop Inv-octets μ-octets
+found-requires c κs = search needs
 
 returns-2 : tie.Need-returns-2 Inv-loop μ-loop Inv-octets μ-octets
 returns-2 c =
-    let entered = c .before .before .before in
+    let entered = c .before .before .before .before in
     let turn = entered .before .before in
-    found _ _ (turn .loop-test .taken) (turn .before .loop .inv .3) (entered .bit-entered .ensures)
-    (c .before .before .if2 .left) (c .before .nearer-form .ensures) (omega arith) (omega arith)
+    rw (c .found .ensures)
+    (found _ _ (turn .loop-test .taken) (turn .before .loop .inv .3) (entered .bit-entered .ensures) (c .before .before .before .if2 .left) (refl, refl)
+    (leb-true _ _ (sym (c .before .before .is-near .ensures) ∙ c .before .if3 .taken)) (omega arith))
 
 add-looked : tie.Need-add-looked Inv-loop μ-loop Inv-octets μ-octets
 add-looked c = search needs
@@ -81,8 +86,8 @@ loop-again c = (
   refl,
   let entered = c .before .before .before in
       let turn = entered .before .before in
-      onward _ _ (turn .loop-test .taken) (turn .before .loop .inv .3) (entered .bit-entered .ensures)
-      (c .before .before .if2 .left) (c .before .nearer-form .ensures) (c .if3 .left),
+      onward _ _ (turn .loop-test .taken) (turn .before .loop .inv .3) (entered .bit-entered .ensures) (c .before .before .if2 .left) (refl, refl)
+      (leb-false _ _ (sym (c .before .is-near .ensures) ∙ c .if3 .left)),
 )
 
 add-i : tie.Need-add-i Inv-loop μ-loop Inv-octets μ-octets
@@ -137,9 +142,10 @@ walk-spec =
     loop-holds
     shared-slice-read-bit-entered
     bit-entered-requires
-    nearer-form-requires
-    add-t23
-    add-t24
+    is-near-requires
+    add-found
+    add-found-2
+    found-requires
     returns-2
     add-looked
     add-b
