@@ -220,44 +220,36 @@ fn search(
     Case::new(name, Work::Search(work.0, work.1), 0, input)
 }
 
+/// Absent, found at a place in either form, and spent: in the longest stream, in one as long as a marked block, and in a short one.
 fn searches(draw: &mut Draw, side: &dyn Calls) -> Vec<Case> {
-    let (last, middle) = (PLACES - 1, 4 * 1279 + 1);
+    const LAST: u64 = PLACES - 1;
+    const HALF: u64 = PLACES / 2;
+    const MIDDLE: u64 = 4 * 1279 + 1;
     let whole = (0, u64::MAX);
-    let half = PLACES / 2;
-    let mut case = |name: &str, octets, marker, work, found| {
-        search(draw, side, name, octets, marker, work, found)
+    let mut absent = |octets| {
+        let found = [ABSENT, 0, 0, 8 * octets as u64 - 31, 0];
+        search(draw, side, "absent", octets, None, whole, found)
     };
-    vec![
-        case("absent", STREAM, None, whole, [ABSENT, 0, 0, PLACES, 0]),
-        case(
-            "at the end",
-            STREAM,
-            Some((last, MARKER)),
-            whole,
-            [FOUND, last, 0, PLACES, TRUE],
-        ),
-        case(
-            "complement at the end",
-            STREAM,
-            Some((last, !MARKER)),
-            whole,
-            [FOUND, last, 0, PLACES, COMPLEMENT],
-        ),
-        case(
-            "in the middle, start 3",
-            1279,
-            Some((middle, MARKER)),
-            (3, u64::MAX),
-            [FOUND, middle, 0, middle - 2, TRUE],
-        ),
-        case(
-            "half the places, spent",
-            STREAM,
-            Some((last, MARKER)),
-            (0, half),
-            [SPENT, half, 0, half, 0],
-        ),
-    ]
+    let mut cases = vec![absent(STREAM), absent(40)];
+    let mut found = |name: &str, octets, start, place, form| {
+        let word = if form == TRUE { MARKER } else { !MARKER };
+        let (marker, from) = (Some((place, word)), (start, u64::MAX));
+        let found = [FOUND, place, 0, place - start + 1, form];
+        search(draw, side, name, octets, marker, from, found)
+    };
+    cases.extend([
+        found("at the end", STREAM, 0, LAST, TRUE),
+        found("complement at the end", STREAM, 0, LAST, COMPLEMENT),
+        found("at the start", 1279, 0, 0, TRUE),
+        found("16 octets on", 1279, 0, 8 * 16 + 1, TRUE),
+        found("48 octets on", 1279, 0, 8 * 48 + 1, TRUE),
+        found("in the middle, start 3", 1279, 3, MIDDLE, TRUE),
+    ]);
+    let (marker, work) = (Some((LAST, MARKER)), (0, HALF));
+    let spent = [SPENT, HALF, 0, HALF, 0];
+    let name = "half the places, spent";
+    cases.push(search(draw, side, name, STREAM, marker, work, spent));
+    cases
 }
 
 const RATES: [&str; 5] = ["1/2", "2/3", "3/4", "5/6", "7/8"];

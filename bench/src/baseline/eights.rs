@@ -22,21 +22,21 @@ fn differing(k: usize, octet: usize, b: usize) -> u64 {
     (0..8).filter(|j| wrong(*j)).count() as u64
 }
 
-/// The places of an octet that fit, as top bits. No sum passes its octet: a count is at most 32.
+/// The places of an octet that fit in so many of their bits, as top bits. No sum passes its octet: a count is at most 32.
 #[derive(Clone, Copy)]
 struct Fits {
     /// Added to a count, this sets its top bit if it is over the tolerance.
     over: Eight,
-    /// And this, if 32 less the count is within the tolerance.
+    /// And this, if the bits less the count are within the tolerance.
     complement: Eight,
 }
 
 impl Fits {
-    fn new(tolerance: u32) -> Fits {
+    fn new(tolerance: u32, bits: u64) -> Fits {
         let tolerance = u64::from(tolerance);
         Fits {
             over: ONES * (127 - tolerance),
-            complement: ONES * (96 + tolerance),
+            complement: ONES * (128 - bits + tolerance),
         }
     }
 
@@ -62,6 +62,20 @@ impl ByEights {
             + e[five[4] as usize]
     }
 
+    /// The same of the three octets in the middle, which all eight places have whole.
+    #[inline(always)]
+    fn common(&self, three: &[u8; 3]) -> Eight {
+        let [_, b, c, d, _] = &self.0;
+        b[three[0] as usize] + c[three[1] as usize] + d[three[2] as usize]
+    }
+
+    /// Whether a place that begins in one of four octets may fit, by the six octets behind the first.
+    #[inline(always)]
+    fn near(&self, fits: Fits, six: &[u8; 6]) -> bool {
+        let three = six.array_windows::<3>();
+        three.fold(0, |all, three| all | fits.of(self.common(three))) != 0
+    }
+
     /// The counts of the places that begin in an octet near an end of the stream. Octets past that are taken as zero: no place that is
     /// looked at reaches them.
     fn counts_at(&self, stream: &[u8], octet: usize) -> Eight {
@@ -72,7 +86,7 @@ impl ByEights {
         if places.count == 0 {
             return places.unfound();
         }
-        let fits = Fits::new(tolerance);
+        let fits = Fits::new(tolerance, 32);
         let found = |octet: usize, counts: Eight, fitting: Eight| {
             let b = fitting.trailing_zeros() / 8;
             let ones = (counts >> (8 * b)) as u32 & 255;
@@ -93,13 +107,31 @@ impl ByEights {
         if first == last {
             return places.unfound();
         }
+        let singly = |from: usize, octets: &[u8]| {
+            octets
+                .array_windows::<5>()
+                .enumerate()
+                .find_map(|(k, five)| {
+                    let counts = self.counts(five);
+                    let fitting = fits.of(counts);
+                    (fitting != 0).then(|| found(from + k, counts, fitting))
+                })
+        };
+        // The octets between go by fours, which are passed over unless the bits that their places have in common come near.
         let between = &stream[first + 1..last + 4];
-        for (k, five) in between.array_windows::<5>().enumerate() {
-            let counts = self.counts(five);
-            let fitting = fits.of(counts);
-            if fitting != 0 {
-                return found(first + 1 + k, counts, fitting);
+        let common = Fits::new(tolerance, 24);
+        let mut k = 0;
+        while let Some(eight) = between[k..].first_chunk::<8>() {
+            let [_, six @ .., _] = eight;
+            if self.near(common, six) {
+                if let Some(answer) = singly(first + 1 + k, eight) {
+                    return answer;
+                }
             }
+            k += 4;
+        }
+        if let Some(answer) = singly(first + 1 + k, &between[k..]) {
+            return answer;
         }
         let counts = self.counts_at(stream, last);
         match fits.of(counts) & to_last {
