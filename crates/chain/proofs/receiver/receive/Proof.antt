@@ -60,7 +60,8 @@ is-complement-requires c κs = search needs
 sub-decode-part : tie.Need-sub-decode-part
 sub-decode-part c =
     let a = c .before .before .before .before .before .before .before .before .before .before .before .args in
-    four-at-least (a .e) (a .depth) (a .fill) (a .s) (a .tolerance) (a .randomised) (a .marked .now) (a .frame .now) (c .before .before .before .before .before .before .before .before .receive-parameters .result) (c .before .before .before .before .before .before .before .before .receive-parameters .ensures) (c .before .before .before .before .before .before .enum-told .given .1)
+    let fits : 4 ≤ length (a .marked .now) = four-at-least (a .e) (a .depth) (a .fill) (a .s) (a .tolerance) (a .randomised) (a .marked .now) (a .frame .now) (c .before .before .before .before .before .before .before .before .receive-parameters .result) (c .before .before .before .before .before .before .before .before .receive-parameters .ensures) (c .before .before .before .before .before .before .enum-told .given .1) in
+    search needs
 
 part-decode-part-start : tie.Need-part-decode-part-start
 part-decode-part-start c =

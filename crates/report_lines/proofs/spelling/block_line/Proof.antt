@@ -21,7 +21,7 @@ with-number-requires c κs = search needs
 
 ended-requires : tie.Need-ended-requires
 ended-requires c κs =
-    (omega (arith, decimal-length 20 (c .before .before .before .before .before .before .args .block)), c .with-number .ensures .whole)
+    (omega (arith, decimal-length 20 (c .before .before .before .before .before .before .args .block)), search needs)
 
 returns : tie.Need-returns
 returns c =
