@@ -117,7 +117,7 @@ fn words(draw: &mut Draw, sides: &[&dyn Calls]) -> u64 {
 /// A stream with up to two markers in either form, at drawn bits, with up to four wrong bits. Starts and budgets lie anywhere, but mostly
 /// about the last that was put there, and about the end. Gives the refusal's number, then the kind and the form.
 fn stream(draw: &mut Draw, sides: &[&dyn Calls]) -> (u64, [u64; 2]) {
-    let n = [0, 3, 4, 5, 6, 12, 12, 40, 40, 65536, 65537][draw.below(11)];
+    let n = [0, 3, 4, 5, 12, 12, 40, 40, 100, 300, 300, 65536, 65537][draw.below(13)];
     let mut octets = draw.octets(n);
     let last = (8 * n).saturating_sub(32);
     let mut place = last;

@@ -101,7 +101,7 @@ fn short_streams() {
     let draw = Draw::new(42);
     let mut kinds = Kinds::default();
     for _ in 0..24000 {
-        let octets = draw.one_of(&[0, 3, 4, 5, 40, 40, 120, 120]);
+        let octets = draw.one_of(&[0, 3, 4, 5, 40, 40, 120, 120, 300, 300]);
         let stream = stream(&draw, octets);
         let bits = 8 * octets;
         let start = draw.one_of(&[0, 0, draw.upto(bits), draw.upto(bits), bits, bits + 1]) as u64;
