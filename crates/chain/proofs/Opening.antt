@@ -15,8 +15,8 @@ use Rattle.refusals.proofs.Orders.{first-unique}
 use Rattle.octets.specs.Bits.{bitAt}
 use Rattle.marker.specs.declared.Form.{Form}
 use Rattle.marker.specs.declared.Form.the-variants.{True, Complement}
-use Rattle.marker.specs.Place.{marker, wrongAmong, wrongBits, nearer, fewer, formAt, fewestWrong}
-use Rattle.marker.proofs.Forms.{nearer-true, complement-wrong}
+use Rattle.marker.specs.Place.{marker, wrongAmong, wrongBits, formAt, fewestWrong}
+use Rattle.marker.proofs.Forms.{nearer-true}
 use Rattle.codewords.specs.Words.{Octets}
 use Rattle.codewords.proofs.WordValues.{changed-octets}
 use Rattle.randomiser.specs.Sequence.{sequenceOctet, randomised}

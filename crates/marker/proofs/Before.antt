@@ -10,12 +10,12 @@ use Rattle.octets.specs.Bits.{bitAt}
 use Rattle.refusals.specs.Order.{FirstOf}
 use Rattle.refusals.specs.Calls.{markerOrder, searchOrder}
 use Rattle.marker.specs.declared.Form.{Form}
-use Rattle.marker.specs.declared.Form.the-variants.{True, Complement}
+use Rattle.marker.specs.declared.Form.the-variants.{True}
 use Rattle.marker.specs.declared.Tested.{Tested}
 use Rattle.marker.specs.declared.Searched.{Searched}
 use Rattle.marker.specs.declared.Searched.the-variants.{Found, Absent, Spent, Refused}
 use Rattle.marker.specs.Place.{marker, wrongAmong, wrongBits, formAt, fewestWrong, Place, remaining}
-use Rattle.marker.specs.Outcome.{testedNumber, testedValue, searchedNumber, TestOutcome, FoundFirst, NoneLeft, BudgetSpent, Looked, SearchOutcome}
+use Rattle.marker.specs.Outcome.{testedNumber, testedValue, searchedNumber, TestOutcome, Looked, SearchOutcome}
 use Rattle.marker.proofs.Forms.{named-form-wrong, form-fits}
 
 -- ---- the definitions of before

@@ -8,14 +8,12 @@ use lib.Bits.{differ}
 use lib.ListN.{length, getD}
 use Rattle.octets.specs.Bits.{bitAt, inverted}
 use Rattle.octets.proofs.Inversion.{inverted-length, bit-inverted}
-use Rattle.refusals.specs.Order.{FirstOf}
-use Rattle.refusals.specs.Calls.{searchOrder}
 use Rattle.marker.specs.declared.Form.{Form}
 use Rattle.marker.specs.declared.Form.the-variants.{True, Complement}
 use Rattle.marker.specs.declared.Searched.{Searched}
 use Rattle.marker.specs.declared.Searched.the-variants.{Found, Absent, Spent, Refused}
-use Rattle.marker.specs.Place.{marker, markerBit, wrongAmong, wrongBits, nearer, fewer, formAt, fewestWrong, Place, Fits, NoneFits}
-use Rattle.marker.specs.Outcome.{searchedNumber, FoundFirst, NoneLeft, BudgetSpent, Looked, SearchOutcome}
+use Rattle.marker.specs.Place.{marker, markerBit, wrongAmong, wrongBits, nearer, fewer, formAt, fewestWrong, Place, NoneFits}
+use Rattle.marker.specs.Outcome.{searchedNumber, Looked, SearchOutcome}
 use Rattle.marker.proofs.Forms.{nearer-true, nearer-complement, complement-wrong}
 use Rattle.marker.proofs.Searches.{legal-given}
 use Rattle.marker.proofs.Settled.{search-settled}

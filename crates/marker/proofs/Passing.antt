@@ -1,11 +1,9 @@
 -- A search that goes on from a place up to which none fits: what it answers there, with the places passed counted, it answers from the start.
 use mathlib.Core.Path.{_≡_, refl}
-use mathlib.Core.Logic.{⊎-elim}
 use mathlib.Core.List.{List}
-use Prim.Native.Nat.{ℕ, _+_, _-_, _*_, _≤_, _<_}
+use Prim.Native.Nat.{ℕ, _+_, _-_, _≤_}
 use native.Mathlib.Decide.{decLt}
 use native.Mathlib.Omega.{arith}
-use lib.ListN.{length}
 use Rattle.refusals.specs.declared.Parameter.{Parameter}
 use Rattle.marker.specs.declared.Form.{Form}
 use Rattle.marker.specs.declared.Searched.{Searched}

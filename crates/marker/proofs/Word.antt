@@ -41,7 +41,7 @@ word-split m (suc n) s p =
 -- ---- octets
 
 -- The first j bits of an octet are what is left of it without the others.
-pub octet-front : (s : List ℕ) (i j : ℕ) → getD s i 0 < 256 → j ≤ 8 → word j s (i * 8) ≡ getD s i 0 / 2 ^ (8 - j)
+octet-front : (s : List ℕ) (i j : ℕ) → getD s i 0 < 256 → j ≤ 8 → word j s (i * 8) ≡ getD s i 0 / 2 ^ (8 - j)
 unfolding word
 octet-front s i zero h l = omega arith
 octet-front s i (suc j) h l =

@@ -1,5 +1,4 @@
 // The search for the marker at every bit of a stream.
-ghost use mathlib.Core.Path.{_≡_};
 ghost use Prim.Native.Nat.{_+_, _-_, _*_, _≤_};
 ghost use lib.ListN.{length};
 ghost use Rattle.marker.specs.Place.{NoneFits, remaining};

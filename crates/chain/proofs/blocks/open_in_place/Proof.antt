@@ -1,6 +1,5 @@
 -- `open_in_place`: inverted if that is asked, and the inverted block randomised if that is asked.
 use mathlib.Core.Path.{ap, _∙_}
-use native.Mathlib.Omega.{arith}
 use borrow.Author.Needs.{needs}
 use Rattle.chain.specs.Outcome.{randomisedIf}
 use Rattle.chain.proofs.blocks.open_in_place.Statement.{statement}

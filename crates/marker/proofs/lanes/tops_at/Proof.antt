@@ -1,5 +1,4 @@
 -- `tops_at` tells by the 24 common bits of each place.
-use native.Mathlib.Omega.{arith}
 use borrow.Author.Needs.{needs}
 use Rattle.marker.proofs.OctetTable.{common-sum}
 use Rattle.marker.proofs.Skipping.{common-tell}
