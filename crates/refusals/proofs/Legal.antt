@@ -2,12 +2,13 @@
 use mathlib.Core.Path.{_≡_}
 use mathlib.Core.Logic.{_≢_, inl, inr}
 use mathlib.Core.List.{List, [], _∷_}
-use Prim.Native.Nat.{ℕ, _≤_, _<_}
+use Prim.Native.Nat.{ℕ, _/_, _%_, _≤_, _<_}
 use native.Mathlib.Omega.{arith}
 use Rattle.refusals.specs.Order.{FirstOf, OneOf}
 use Rattle.refusals.specs.Sizes.{strengths, depths, rates, period, information}
+use Rattle.refusals.specs.Calls.{likeliestOrder}
 use Rattle.refusals.specs.Working.{wordParameters, allowedParameters, coderParameters}
-use Rattle.refusals.proofs.Orders.{Numbered, Clear, accepted-clear, one-of}
+use Rattle.refusals.proofs.Orders.{Numbered, Clear, accepted-clear, not-different, one-of}
 
 -- The least and the largest number of a list bound every one of it.
 abbrev pub Within : ℕ → ℕ → List ℕ → Type 0
@@ -109,4 +110,26 @@ accepted-coder r bits at held f =
       register = omega (arith, clear .1 .0);
       place = omega (arith, clear .1 .1 .0);
       holds = omega (arith, clear .1 .1 .1 .0);
+    }
+
+-- What is known of the numbers for which the likeliest data are sought.
+pub record LegalLikeliest (bits symbols octets : ℕ) : Type 0 where
+  pub register : bits < 64
+  pub even : symbols % 2 ≡ 0
+  pub limit : symbols ≤ 512
+  pub half : octets ≡ symbols / 2
+
+pub likeliest-numbers : (bits symbols octets : ℕ) → Numbered (likeliestOrder bits symbols octets)
+likeliest-numbers bits symbols octets = (omega arith, (omega arith, (omega arith, tt)))
+
+pub accepted-likeliest : (bits symbols octets : ℕ) → FirstOf (likeliestOrder bits symbols octets) 0 → LegalLikeliest bits symbols octets
+accepted-likeliest bits symbols octets f =
+    let clear = accepted-clear (likeliestOrder bits symbols octets) (likeliest-numbers bits symbols octets) f in
+    let odd : (symbols % 2 ≡ 1) → ⊥ = λ o. clear .1 .0 (inl o) in
+    let over : (512 < symbols) → ⊥ = λ o. clear .1 .0 (inr o) in
+    record {
+      register = omega (arith, clear .0);
+      even = omega (arith, odd);
+      limit = omega (arith, over);
+      half = not-different octets (symbols / 2) (clear .1 .1 .0);
     }

@@ -7,7 +7,7 @@ use lib.ListN.{getD}
 use Rattle.refusals.specs.Order.{Check, FirstOf, OneOf, Tells}
 use Rattle.refusals.specs.Sizes.{strengths}
 use Rattle.refusals.specs.Numbers.{parameterNumber, verdictNumber, markerNumber}
-use Rattle.refusals.specs.Calls.{encodeOrder, portionOrder, closeOrder, decodeParameters, randomiseOrder, convolveOrder, coderCloseOrder, markerParameters, searchOrder, transmitOrder, receiveParameters}
+use Rattle.refusals.specs.Calls.{encodeOrder, portionOrder, closeOrder, decodeParameters, randomiseOrder, convolveOrder, coderCloseOrder, likeliestOrder, markerParameters, searchOrder, transmitOrder, receiveParameters}
 use Rattle.refusals.specs.declared.Parameter.{Parameter}
 use Rattle.refusals.specs.declared.Parameter.the-variants.{Strength, Depth, Fill, Allowance, Input, Output, Rate, Tolerance, Start, Progress}
 use Rattle.refusals.specs.declared.Verdict.{Verdict}
@@ -87,6 +87,9 @@ module _ (v w : Verdict) where
 
   pub coder-close-parameters-settled : (r bits at held symbols : ℕ) → Settled (coderCloseOrder r bits at held symbols)
   coder-close-parameters-settled r bits at held symbols = verdict-settled (coderCloseOrder r bits at held symbols) v w
+
+  pub likeliest-parameters-settled : (bits symbols octets : ℕ) → Settled (likeliestOrder bits symbols octets)
+  likeliest-parameters-settled bits symbols octets = verdict-settled (likeliestOrder bits symbols octets) v w
 
   pub marker-parameters-settled : (t octets : ℕ) → Settled (markerParameters t octets)
   marker-parameters-settled t octets = verdict-settled (markerParameters t octets) v w

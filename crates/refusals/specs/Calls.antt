@@ -1,15 +1,16 @@
--- The twelve checks, and the order in which each of the eleven calls makes them (document 01, "Refusal numbers and the order of checks"; document 02,
--- (ii) and (iii)).
+-- The twelve checks, and the order in which each of the twelve calls makes them (document 01, "Refusal numbers and the order of checks"; document 02,
+-- (ii), (iii) and (vi)).
 use mathlib.Core.Path.{_≡_}
 use mathlib.Core.Bool.{Bool, true}
 use mathlib.Core.Logic.{_≢_, _⊎_}
 use mathlib.Core.List.{List, [], _∷_, _++_}
-use Prim.Native.Nat.{ℕ, _+_, _-_, _*_, _/_, _≤_, _<_}
+use Prim.Native.Nat.{ℕ, _+_, _-_, _*_, _/_, _%_, _≤_, _<_}
 use Rattle.refusals.specs.Order.{Check, OneOf}
 use Rattle.refusals.specs.Sizes.{strengths, depths, rates, period, information, frameLength, blockLength, checksLength, markedLength, symbolCount, octetsFor}
 
--- The checks, each with its number; 5 has two forms, for a length that is not the one required and for one over the limit, and 7 four,
--- for the rate and for the coder's state: a register over six bits, a place that the period does not have, more than seven symbols held.
+-- The checks, each with its number; 5 has three forms, for a length that is not the one required, for one over the limit, and for one that is odd
+-- or over the limit, and 7 four, for the rate and for the coder's state: a register over six bits, a place that the period does not have, more than
+-- seven symbols held.
 abbrev pub strength : ℕ → Check
 strength e = (1, (OneOf strengths e → ⊥))
 
@@ -27,6 +28,9 @@ input len required = (5, len ≢ required)
 
 abbrev pub inputOver : ℕ → ℕ → Check
 inputOver limit len = (5, limit < len)
+
+abbrev pub inputOddOrOver : ℕ → ℕ → Check
+inputOddOrOver limit len = (5, (len % 2 ≡ 1) ⊎ (limit < len))
 
 abbrev pub output : ℕ → ℕ → Check
 output len required = (6, len ≢ required)
@@ -92,6 +96,10 @@ convolveOrder r bits at held octets symbols =
 
 abbrev pub coderCloseOrder : ℕ → ℕ → ℕ → ℕ → ℕ → List Check
 coderCloseOrder r bits at held symbols = rate r ∷ register bits ∷ place r at ∷ holding held ∷ output symbols (octetsFor held) ∷ []
+
+-- The likeliest data are half as many octets as the symbols that they are sought for.
+abbrev pub likeliestOrder : ℕ → ℕ → ℕ → List Check
+likeliestOrder bits symbols octets = register bits ∷ inputOddOrOver 512 symbols ∷ output octets (symbols / 2) ∷ []
 
 abbrev pub markerParameters : ℕ → ℕ → List Check
 markerParameters t octets = tolerance t ∷ input octets 4 ∷ []

@@ -1,6 +1,7 @@
 // The refusals of documents 01 and 02: their names and numbers, and the checks of parameters and lengths that the calls share.
 mod checks;
 mod coder;
+mod likeliest;
 mod numbers;
 mod portions;
 
@@ -14,6 +15,7 @@ pub use checks::strength_legal;
 pub use checks::transmit_parameters;
 pub use coder::coder_close_parameters;
 pub use coder::convolve_parameters;
+pub use likeliest::likeliest_parameters;
 pub use numbers::marker_number;
 pub use numbers::parameter_number;
 pub use numbers::verdict_number;
