@@ -100,3 +100,8 @@ rows-more received i n rows base row h c d = record { at = λ k a b. at k a b (l
 
 pub rows-at : (received : List ℕ) (i k n : ℕ) (rows : List (List ℕ)) → i ≡ k → Rows received i n rows → Rows received k n rows
 rows-at received i k n rows e c = rw e at c
+
+-- What can be taken, read off the row just kept.
+pub row-spare : (rows : List (List ℕ)) (i : ℕ) (row : List ℕ) (taken : ℕ) → i < length rows →
+    taken ≡ cond (ltb 32767 (getD (getD (set rows i row) i []) 0 0)) 16384 0 → taken ≡ cond (ltb 32767 (getD row 0 0)) 16384 0
+row-spare rows i row taken h e = rw (getD-set-same rows i row [] h) at e

@@ -8,3 +8,4 @@ pub mod Ways
 pub mod Pairs
 pub mod Backward
 pub mod Walking
+pub mod Outcomes
