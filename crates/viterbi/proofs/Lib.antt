@@ -9,3 +9,6 @@ pub mod Pairs
 pub mod Backward
 pub mod Walking
 pub mod Outcomes
+pub mod Settled
+pub mod Promises
+pub mod Returning
