@@ -10,7 +10,7 @@ use lib.ListN.{length, getD, set, drop, replicate, length-drop, drop-of-length-l
 use lib.Seq.{getD-set-same, getD-set-other}
 use Rattle.convolution.specs.Coder.{bitsOf}
 use Rattle.convolution.proofs.Bits.{bits-length}
-use Rattle.viterbi.specs.Working.{toGo, path, Lowered, Above, Below, Ahead, Words, Rows}
+use Rattle.viterbi.specs.Working.{path, Lowered, Above, Below, Ahead, Words, Rows}
 use Rattle.viterbi.proofs.Spread.{spread, to-go-most}
 
 -- ---- words without a way

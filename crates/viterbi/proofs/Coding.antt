@@ -1,8 +1,8 @@
 -- The coder at rate 1/2 bit by bit, and the differing places of a list of bits.
 use mathlib.Core.Path.{_≡_, refl}
-use mathlib.Core.Bool.{Bool, true, false}
+use mathlib.Core.Bool.{Bool, true, false, cond}
 use mathlib.Core.List.{List, [], _∷_}
-use Prim.Native.Nat.{ℕ, _+_, _-_, _≤_}
+use Prim.Native.Nat.{ℕ, _+_, _-_, _≤_, _<_}
 use native.Mathlib.Omega.{arith}
 use lib.Dec.{eqb}
 use Rattle.codewords.specs.Words.{differing, oneUnless}
@@ -35,3 +35,8 @@ pub branch-most : (register bit a b : ℕ) → branch register bit a b ≤ 2
 unfolding branch symbolsAt differing
 branch-most register bit a b =
     omega (arith, at-most-one (eqb (connected g1 register bit) a), at-most-one (eqb (1 - connected g2 register bit) b))
+
+-- The bit that a test chooses.
+pub chosen-bit : (one : Bool) → cond one 1 0 < 2
+chosen-bit true = omega arith
+chosen-bit false = omega arith

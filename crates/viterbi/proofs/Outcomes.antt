@@ -1,7 +1,7 @@
 -- What the two ways out of `likeliest` leave: refused as checked, or the path, which is the best input.
 use mathlib.Core.Path.{_≡_, refl, sym, ap, _∙_}
-use mathlib.Core.List.{List, [], _∷_}
-use Prim.Native.Nat.{ℕ, _+_, _*_, _/_, _≤_, _<_}
+use mathlib.Core.List.{List}
+use Prim.Native.Nat.{ℕ, _+_, _*_, _/_}
 use native.Mathlib.Omega.{arith}
 use lib.ListN.{length, getD}
 use Rattle.refusals.specs.Order.{FirstOf}
@@ -11,20 +11,16 @@ use Rattle.refusals.specs.declared.Parameter.{Parameter}
 use Rattle.refusals.specs.declared.Verdict.{Verdict}
 use Rattle.refusals.specs.declared.Verdict.the-variants as verdict
 use Rattle.refusals.proofs.Verdicts.{same-verdict, parameter-nonzero}
-use Rattle.refusals.proofs.Legal.{LegalLikeliest, accepted-likeliest}
-use Rattle.convolution.specs.Coder.{lowBits, bitsOf, symbolsFrom}
+use Rattle.refusals.proofs.Legal.{accepted-likeliest}
+use Rattle.convolution.specs.Coder.{bitsOf}
 use Rattle.convolution.proofs.Bits.{bits-length}
-use Rattle.convolution.proofs.Packing.{AreBits, bits-joined, low-bits}
 use Rattle.viterbi.specs.Likeliest.{places, Best}
 use Rattle.viterbi.specs.Outcome.{LikeliestOutcome}
 use Rattle.viterbi.specs.declared.Sought.the-variants.{Found, Refused}
 use Rattle.viterbi.specs.Working.{toGo, path, Words, Walked}
+use Rattle.viterbi.proofs.Octets.{bits-of}
 use Rattle.viterbi.proofs.Coding.{cost}
 use Rattle.viterbi.proofs.Optimal.{lower, path-cost, path-first}
-
-pub bits-of : (octets : List ℕ) → AreBits (bitsOf octets)
-bits-of [] = tt
-bits-of (x ∷ octets) = bits-joined (lowBits 8 x) (bitsOf octets) (low-bits 8 x) (bits-of octets)
 
 pub refused-as-checked : (register : ℕ) (received before : List ℕ) (v : Verdict) (p : Parameter) → v ≡ verdict.Refused p →
     FirstOf (likeliestOrder register (length received) (length before)) (verdictNumber v) → LikeliestOutcome register received before (Refused p) before

@@ -1,24 +1,21 @@
--- What was coded comes back, in one call or in portions, however the coder's calls were cut: with no symbol wrong each call tells 0 places and the
--- register that the coder reached, so the next goes on from there.
+-- What was coded comes back, however the coder's calls were cut: with no symbol wrong the call tells 0 places and the register that the coder
+-- reached, so the next goes on from there.
 use mathlib.Core.Path.{_≡_, refl, sym, ap, ap₂, _∙_, subst}
 use mathlib.Core.Logic.{_⊎_, inl, ⊎-elim}
-use mathlib.Core.List.{List, [], _∷_, _++_}
-use Prim.Native.Nat.{ℕ, zero, suc, _+_, _*_, _/_, _%_, _≤_, _<_}
+use mathlib.Core.List.{List, [], _∷_}
+use Prim.Native.Nat.{ℕ, _+_, _*_, _/_, _%_, _≤_, _<_}
 use native.Mathlib.Omega.{arith}
-use lib.ListN.{length, getD, take, drop, length-append, take-append-drop}
-use lib.Seq.{take-at, drop-at, length-take-le}
+use lib.ListN.{length, getD, drop}
 use Rattle.refusals.specs.Order.{FirstOf}
 use Rattle.refusals.specs.Calls.{likeliestOrder, convolveOrder}
 use Rattle.refusals.proofs.Orders.{first-unique, clear-accepted}
-use Rattle.refusals.proofs.Legal.{LegalCoder, accepted-likeliest}
+use Rattle.refusals.proofs.Legal.{LegalCoder}
 use Rattle.codewords.specs.Words.{Octets, differing}
 use Rattle.codewords.proofs.LineWords.{differing-self, differing-none}
 use Rattle.convolution.specs.declared.State.{State}
-use Rattle.convolution.specs.declared.Ran.{Ran}
-use Rattle.convolution.specs.Coder.{lowBits, bitsOf, g1, ones, connected, symbolsAt, symbolsFrom, nextRegister, nextPlace, registerAfter, placeAfter, filled}
-use Rattle.convolution.specs.Outcome.{convolvedNumber, ConvolveOutcome, toSend}
-use Rattle.convolution.proofs.Bits.{bits-append, bits-length}
-use Rattle.convolution.proofs.Symbols.{symbols-append, register-append}
+use Rattle.convolution.specs.Coder.{bitsOf, g1, ones, connected, symbolsAt, symbolsFrom, nextRegister, registerAfter, filled}
+use Rattle.convolution.specs.Outcome.{toSend}
+use Rattle.convolution.proofs.Bits.{bits-length}
 use Rattle.convolution.proofs.Count.{symbol-count}
 use Rattle.convolution.proofs.Packing.{AreBits, symbols-bits}
 use Rattle.convolution.proofs.Outcomes.{legal}
@@ -26,10 +23,9 @@ use Rattle.convolution.proofs.Calls.{Calls, one, more, calls-joined}
 use Rattle.viterbi.specs.declared.Sought.{Sought}
 use Rattle.viterbi.specs.declared.Sought.the-variants.{Found}
 use Rattle.viterbi.specs.Likeliest.{places}
-use Rattle.viterbi.specs.Outcome.{soughtNumber, soughtPlaces, soughtRegister, LikeliestOutcome}
-use Rattle.viterbi.proofs.Outcomes.{bits-of}
-use Rattle.viterbi.proofs.Settled.{known-by-bits, sought-known, likeliest-settled}
-use Rattle.viterbi.proofs.Promises.{whole-octets}
+use Rattle.viterbi.specs.Outcome.{soughtNumber, soughtRegister, LikeliestOutcome}
+use Rattle.viterbi.proofs.Octets.{bits-of, known-by-bits, filled-bits}
+use Rattle.viterbi.proofs.Settled.{sought-known, likeliest-settled}
 
 -- ---- no two inputs have the same symbols
 
@@ -100,15 +96,15 @@ start-legal s (more octets before r after calls o z) = start-legal s calls
 
 -- From a state that holds nothing the calls write just the symbols of their input, and lead to the register that it leads to.
 module _ (s : State) (input written : List ℕ) (count : ℕ) (t : State) (calls : Calls 1 s input written count t) (nothing : s .holds ≡ 0) where
-  written-symbols : bitsOf written ≡ symbolsFrom 1 (s .register) 0 (bitsOf input)
+  pub written-symbols : bitsOf written ≡ symbolsFrom 1 (s .register) 0 (bitsOf input)
   written-symbols =
       let place : s .place ≡ 0 = omega (arith, start-legal s calls .place) in
       let symbols = symbolsFrom 1 (s .register) 0 (bitsOf input) in
       let sent : toSend 1 s input ≡ symbols = rw (nothing, place) in
       ap bitsOf (calls-joined 1 s input written count t calls .symbols ∙ ap filled sent)
-      ∙ whole-octets symbols (symbols-bits 1 (s .register) 0 (bitsOf input)) (omega (arith, coded-length (s .register) input))
+      ∙ filled-bits symbols (symbols-bits 1 (s .register) 0 (bitsOf input)) (omega (arith, coded-length (s .register) input))
 
-  register-reached : t .register ≡ registerAfter (s .register) (bitsOf input)
+  pub register-reached : t .register ≡ registerAfter (s .register) (bitsOf input)
   register-reached = ap (λ (u : State). u .register) (calls-joined 1 s input written count t calls .state)
 
   module _ (octets : Octets input) where
@@ -127,65 +123,3 @@ module _ (s : State) (input written : List ℕ) (count : ℕ) (t : State) (calls
     register-handed-on before answer after few l o received lent left right a b p q =
         let same : soughtRegister answer ≡ t .register = ap soughtRegister (coded-comes-back before answer after few l o .0) in
         likeliest-settled (t .register) received lent left right a b (subst (λ (r : ℕ). LikeliestOutcome r received lent a left) same p) q
-
--- ---- any portions
-
--- Calls one after the other, each accepted and from the register that the one before it reached: the symbols that they were given, the data that they
--- left, and the last register.
-pub data Portions : ℕ → List ℕ → List ℕ → ℕ → Type 0 where
-  none : (register : ℕ) → Portions register [] [] register
-  then : {received input : List ℕ} {end : ℕ} (register : ℕ) (symbols before : List ℕ) (answer : Sought) (after : List ℕ) → LikeliestOutcome register symbols before answer after →
-      soughtNumber answer ≡ 0 → Portions (soughtRegister answer) received input end → Portions register (symbols ++ received) (after ++ input) end
-
-place-stays : (bits : List ℕ) → placeAfter 1 0 bits ≡ 0
-place-stays [] = refl
-place-stays (bit ∷ bits) = place-stays bits
-
--- The symbols of joined inputs are told apart by their number.
-cut-coded : (register k : ℕ) (first later input : List ℕ) → length first ≡ 2 * k → bitsOf (first ++ later) ≡ symbolsFrom 1 register 0 (bitsOf input) →
-    (length (take k input) ≡ k)
-    × (bitsOf first ≡ symbolsFrom 1 register 0 (bitsOf (take k input)))
-    × (bitsOf later ≡ symbolsFrom 1 (registerAfter register (bitsOf (take k input))) 0 (bitsOf (drop k input)))
-cut-coded register k first later input l coded = (front, sym taken-first ∙ ap (take (16 * k)) both ∙ taken-second, sym dropped-first ∙ ap (drop (16 * k)) both ∙ dropped-second)
-  where
-    bits : bitsOf input ≡ bitsOf (take k input) ++ bitsOf (drop k input)
-    bits = ap bitsOf (sym (take-append-drop k input)) ∙ bits-append (take k input) (drop k input)
-
-    enough : k ≤ length input
-    enough = omega (arith, coded-double register input (first ++ later) coded, length-append first later)
-
-    front : length (take k input) ≡ k
-    front = length-take-le k input enough
-
-    head : List ℕ
-    head = symbolsFrom 1 register 0 (bitsOf (take k input))
-
-    tail : List ℕ
-    tail = symbolsFrom 1 (registerAfter register (bitsOf (take k input))) 0 (bitsOf (drop k input))
-
-    joined : symbolsFrom 1 register 0 (bitsOf input) ≡ head ++ tail
-    joined =
-        ap (symbolsFrom 1 register 0) bits
-        ∙ symbols-append 1 register 0 (bitsOf (take k input)) (bitsOf (drop k input))
-        ∙ ap (λ (p : ℕ). head ++ symbolsFrom 1 (registerAfter register (bitsOf (take k input))) p (bitsOf (drop k input))) (place-stays (bitsOf (take k input)))
-
-    both : bitsOf first ++ bitsOf later ≡ head ++ tail
-    both = sym (bits-append first later) ∙ coded ∙ joined
-
-    first-long : length (bitsOf first) ≡ 16 * k
-    first-long = omega (arith, bits-length first)
-
-    head-long : length head ≡ 16 * k
-    head-long = coded-length register (take k input) ∙ ap (λ (n : ℕ). 16 * n) front
-
-    taken-first : take (16 * k) (bitsOf first ++ bitsOf later) ≡ bitsOf first
-    taken-first = take-at (bitsOf first) (bitsOf later) (16 * k) first-long
-
-    taken-second : take (16 * k) (head ++ tail) ≡ head
-    taken-second = take-at head tail (16 * k) head-long
-
-    dropped-first : drop (16 * k) (bitsOf first ++ bitsOf later) ≡ bitsOf later
-    dropped-first = drop-at (bitsOf first) (bitsOf later) (16 * k) first-long
-
-    dropped-second : drop (16 * k) (head ++ tail) ≡ tail
-    dropped-second = drop-at head tail (16 * k) head-long

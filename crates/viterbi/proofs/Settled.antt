@@ -1,6 +1,6 @@
 -- The contract settles the call: two outcomes that it permits for the same inputs are equal, answer and lent data. There is only one best input.
 use mathlib.Core.Path.{_≡_, refl, sym, ap, ap₂, _∙_}
-use mathlib.Core.List.{List, [], _∷_, append-nil}
+use mathlib.Core.List.{List}
 use Prim.Native.Nat.{ℕ}
 use native.Mathlib.Omega.{arith}
 use lib.ListN.{length}
@@ -9,26 +9,14 @@ use Rattle.refusals.proofs.Orders.{first-unique}
 use Rattle.refusals.proofs.Verdicts.{parameter-nonzero}
 use Rattle.refusals.proofs.Settled.{parameter-known}
 use Rattle.codewords.specs.Words.{Octets}
-use Rattle.convolution.specs.Coder.{bitsOf, registerAfter, packed}
+use Rattle.convolution.specs.Coder.{bitsOf, registerAfter}
 use Rattle.convolution.proofs.Bits.{bits-length}
-use Rattle.convolution.proofs.Packing.{AreOctets, packed-octets}
 use Rattle.viterbi.specs.declared.Sought.{Sought}
 use Rattle.viterbi.specs.declared.Sought.the-variants.{Found, Refused}
 use Rattle.viterbi.specs.Likeliest.{places, Best}
 use Rattle.viterbi.specs.Outcome.{soughtNumber, soughtPlaces, soughtRegister, LikeliestOutcome}
+use Rattle.viterbi.proofs.Octets.{known-by-bits}
 use Rattle.viterbi.proofs.Optimal.{first-both}
-
--- ---- octets are known by their bits
-
-are-octets : (octets : List ℕ) → Octets octets → AreOctets octets
-are-octets [] p = tt
-are-octets (x ∷ octets) p = (p .0, are-octets octets (p .1))
-
-packed-back : (octets : List ℕ) → Octets octets → packed (bitsOf octets) ≡ octets
-packed-back octets p = ap packed (sym (append-nil (bitsOf octets))) ∙ packed-octets octets [] (are-octets octets p) ∙ append-nil octets
-
-pub known-by-bits : (one other : List ℕ) → Octets one → Octets other → bitsOf one ≡ bitsOf other → one ≡ other
-known-by-bits one other p q e = sym (packed-back one p) ∙ ap packed e ∙ packed-back other q
 
 -- ---- one best input
 

@@ -1,14 +1,14 @@
 -- The costs to go are at most the symbols to come, and no two registers' differ by more than 12: six equal bits lead to one register.
 use mathlib.Core.Path.{_≡_, refl, sym, ap, _∙_}
 use mathlib.Core.List.{List, [], _∷_}
-use Prim.Native.Nat.{ℕ, zero, suc, _+_, _-_, _*_, _/_, _%_, _^_, _≤_, _<_, min}
+use Prim.Native.Nat.{ℕ, zero, suc, _+_, _*_, _/_, _%_, _^_, _≤_, _<_}
 use native.Mathlib.Nat.{mod-lt, pow-suc}
 use native.Mathlib.Omega.{arith}
 use lib.Arith.{mod-mul}
 use lib.Pow.{pow-pos, mod-mod-pow}
 use lib.ListN.{length}
 use Rattle.convolution.specs.Coder.{nextRegister}
-use Rattle.viterbi.specs.Working.{branch, toGo}
+use Rattle.viterbi.specs.Working.{toGo}
 use Rattle.viterbi.proofs.Coding.{branch-most}
 
 pub to-go-most : (received : List ℕ) (r : ℕ) → toGo received r ≤ length received

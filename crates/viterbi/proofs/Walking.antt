@@ -1,8 +1,7 @@
 -- Forward from octet to octet: the data so far are the beginning of the path, and lead to the register.
 use mathlib.Core.Path.{_≡_, refl, sym, ap, ap₂, _∙_}
-use mathlib.Core.Bool.{Bool, true, false}
 use mathlib.Core.List.{List, [], _∷_, _++_, append-assoc, append-nil}
-use Prim.Native.Nat.{ℕ, _+_, _*_, _/_, _%_, _^_, _<_}
+use Prim.Native.Nat.{ℕ, _+_, _*_, _/_, _%_, _<_}
 use native.Mathlib.Nat.{mod-lt}
 use native.Mathlib.Omega.{arith}
 use native.Mathlib.Numerals.{add-one}
@@ -14,6 +13,7 @@ use Rattle.convolution.proofs.Bits.{low-mod, bits-append, bits-length}
 use Rattle.convolution.proofs.AtOnce.{register-at}
 use Rattle.convolution.proofs.Symbols.{register-append}
 use Rattle.viterbi.specs.Working.{path, Ahead, Walked}
+use Rattle.viterbi.proofs.Octets.{octets-more}
 
 -- The register behind an octet is its last six bits.
 last-six : (r v : ℕ) → r < 64 → v < 256 → registerAfter r (lowBits 8 v) ≡ v % 64
@@ -23,10 +23,6 @@ last-six r v h l =
     let low : w % 256 ≡ v = omega arith in
     let six : w % 64 ≡ v % 64 = omega arith in
     ap₂ registerAfter (sym above) (ap (lowBits 8) (sym low) ∙ low-mod 8 8 w (omega arith)) ∙ register-at 8 w ∙ six
-
-octets-more : (a : List ℕ) (v : ℕ) → Octets a → v < 256 → Octets (a ++ (v ∷ []))
-octets-more [] v p h = (h, tt)
-octets-more (x ∷ a) v p h = (p .0, octets-more a v (p .1) h)
 
 pub record Halfway (received : List ℕ) (start : ℕ) (list : List ℕ) (i at : ℕ) : Type 0 where
   pub octets : Octets (take i list)
@@ -41,7 +37,7 @@ pub halfway-more : (received : List ℕ) (start : ℕ) (list : List ℕ) (i at v
     Halfway received start (set list i v) (i + 1) (v % 64)
 halfway-more received start list i at v h d g =
     record {
-      octets = rw taken (octets-more (take i list) v (d .octets) (g .small));
+      octets = rw taken (octets-more (take i list) v (d .octets) (g .small, tt));
       register = mod-lt v (omega arith);
       walked =
           d .walked

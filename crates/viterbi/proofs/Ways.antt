@@ -1,7 +1,7 @@
 -- One bit back over words: the smaller word is the cheaper way, and of two equally cheap ones that with the bit 0.
 use mathlib.Core.Path.{_≡_, refl, sym, ap, ap₂, _∙_}
 use mathlib.Core.Bool.{Bool, true, false, cond}
-use mathlib.Core.List.{List, [], _∷_, _++_}
+use mathlib.Core.List.{List, _∷_, _++_}
 use Prim.Native.Nat.{ℕ, zero, suc, _+_, _*_, _/_, _%_, _^_, _≤_, _<_, min}
 use native.Mathlib.Nat.{le-refl, pow-suc}
 use native.Mathlib.Omega.{arith}
@@ -14,6 +14,7 @@ use lib.ListN.{getD, drop}
 use Rattle.convolution.specs.Coder.{lowBits, nextRegister, registerAfter}
 use Rattle.convolution.proofs.Bits.{low-first, low-mod}
 use Rattle.viterbi.specs.Working.{toGo, via, choice, path, pairBranch, Pair, Earlier, Ahead, Words}
+use Rattle.viterbi.proofs.Coding.{chosen-bit}
 use Rattle.viterbi.proofs.Stepping.{next-small}
 
 pub power-most : (k : ℕ) → k < 8 → 2 ^ k ≤ 128
@@ -35,10 +36,6 @@ same-test m x y u v e d = go (ltb x y) refl
     go : (t : Bool) → ltb x y ≡ t → t ≡ ltb u v
     go true h = sym (lt-ltb u v (omega (arith, ltb-true x y h)))
     go false h = sym (le-ltb u v (omega (arith, ltb-false x y h)))
-
-bit-small : (t : Bool) → cond t 1 0 < 2
-bit-small true = omega arith
-bit-small false = omega arith
 
 module _ (received : List ℕ) (t k pair base : ℕ) (cost way : ℕ → ℕ) (q : Pair received t pair)
     (c : (r : ℕ) → r < 64 → base + cost r ≡ toGo (drop (2 * t + 2) received) r)
@@ -92,7 +89,7 @@ module _ (received : List ℕ) (t k pair base : ℕ) (cost way : ℕ → ℕ) (q
       (cond (ltb (pairBranch pair r 1 + cost (nextRegister r 1)) (pairBranch pair r 0 + cost (nextRegister r 0))) (way (nextRegister r 1) + 2 ^ k) (way (nextRegister r 0)))
   ahead-more r =
       let b = ltb (via r (pair / 2) (pair % 2) (drop (2 * t + 2) received) 1) (via r (pair / 2) (pair % 2) (drop (2 * t + 2) received) 0) in
-      rw (test r) (rw (chosen r b) (front r (choice r (pair / 2) (pair % 2) (drop (2 * t + 2) received)) (bit-small b) refl))
+      rw (test r) (rw (chosen r b) (front r (choice r (pair / 2) (pair % 2) (drop (2 * t + 2) received)) (chosen-bit b) refl))
 
   cost-more : (r : ℕ) → base + min (pairBranch pair r 0 + cost (nextRegister r 0)) (pairBranch pair r 1 + cost (nextRegister r 1)) ≡ toGo (drop (2 * t) received) r
   cost-more r = rw (q .split) (omega (arith, c (nextRegister r 0) (next-small r 0), c (nextRegister r 1) (next-small r 1)))

@@ -1,5 +1,4 @@
 -- `cost_at` reads the list, which has 128 entries, at the pair and the register.
-use native.Mathlib.Omega.{arith}
 use borrow.Author.Needs.{needs}
 use Rattle.viterbi.proofs.costs.cost_at.Statement.{statement}
 use Rattle.viterbi.proofs.costs.cost_at.Tie as tie
