@@ -9,11 +9,6 @@ use Rattle.codewords.specs.Words.{differing, oneUnless}
 use Rattle.convolution.specs.Coder.{g1, g2, connected, symbolsAt, symbolsFrom, nextRegister}
 use Rattle.viterbi.specs.Working.{branch}
 
--- Each bit has two symbols, C1 and the inverted C2.
-pub two-symbols : (register bit : ℕ) → symbolsAt 1 register 0 bit ≡ connected g1 register bit ∷ ((1 - connected g2 register bit) ∷ [])
-unfolding symbolsAt
-two-symbols register bit = refl
-
 -- In how many places the symbols of bits differ from received ones.
 unfoldable pub cost : ℕ → List ℕ → List ℕ → ℕ
 cost register received bits = differing (symbolsFrom 1 register 0 bits) received

@@ -23,9 +23,8 @@ enum-known-checked c = search needs
 
 returns : tie.Need-returns
 returns c =
-    let args = c .before .before .before .before .before .before .args in
     let checked = c .before .before .before .likeliest-parameters in
-    refused-as-checked (args .register) (args .symbols .now) (args .«data» .now) (checked .result) _ (c .before .checked .given .1) (checked .ensures)
+    refused-as-checked _ _ _ (checked .result) _ (c .before .checked .given .1) (checked .ensures)
 
 enum-told : tie.Need-enum-told
 enum-told c = search needs

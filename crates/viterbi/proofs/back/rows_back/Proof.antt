@@ -16,8 +16,8 @@ abbrev Inv-loop : tie.InvT-loop
 Inv-loop symbols rows₀ costs words₀ base₀ i₀ rows words base i =
     (i ≤ length symbols / 2)
     × (length rows ≡ 256)
-    × Below 36000 words
     × Words (bitsOf symbols) (8 * i) 0 base words
+    × Below 36000 words
     × Rows (bitsOf symbols) i (length symbols / 2) rows
 
 abbrev μ-loop : tie.MeasureT-loop
@@ -27,14 +27,14 @@ cost-list-requires : tie.Need-cost-list-requires Inv-loop μ-loop
 cost-list-requires c κs = search needs
 
 loop-holds : tie.Need-loop-holds Inv-loop μ-loop
-loop-holds c = (omega arith, search needs, below-zero _, words-end (c .before .before .args .symbols .now) (c .before .before .pre .1), rows-end _ _ _)
+loop-holds c = (omega arith, search needs, words-end (c .before .before .args .symbols .now) (c .before .before .pre .1), below-zero _, rows-end _ _ _)
 
 sub-i : tie.Need-sub-i Inv-loop μ-loop
 sub-i c = search needs
 
 octet-back-requires : tie.Need-octet-back-requires Inv-loop μ-loop
 octet-back-requires c κs =
-    (c .before .before .before .cost-list .ensures, c .before .before .before .before .before .pre .0, omega arith, c .before .before .loop .inv .2)
+    (c .before .before .before .cost-list .ensures, c .before .before .before .before .before .pre .0, omega arith, c .before .before .loop .inv .3)
 
 mul-front : tie.Need-mul-front Inv-loop μ-loop
 mul-front c = search needs
@@ -59,7 +59,7 @@ lowered-requires c κs =
     let s = c .before .before .before .before .before .before .before .before .args .symbols .now in
     let l = c .before .before .before .before .before .loop in
     let o = c .before .before .octet-back in
-    let words = o .ensures .1 .at (l .base) (words-at (bitsOf s) (8 * l .i) (8 * (l .i - 1) + 8) _ _ _ (omega arith) (l .inv .3)) in
+    let words = o .ensures .1 .at (l .base) (words-at (bitsOf s) (8 * l .i) (8 * (l .i - 1) + 8) _ _ _ (omega arith) (l .inv .2)) in
     words-above _ _ _ _ _ words (row-spare (l .rows) _ (o .result) _ (omega arith) (c .spare .ensures .1))
 
 cast-base : tie.Need-cast-base Inv-loop μ-loop
@@ -69,7 +69,7 @@ add-base : tie.Need-add-base Inv-loop μ-loop
 add-base c =
     let s = c .before .before .before .before .before .before .before .before .before .args .symbols .now in
     let l = c .before .before .before .before .before .before .loop in
-    omega (arith, c .before .spare .ensures .0, base-small (bitsOf s) (8 * l .i) _ _ _ (omega (arith, bits-length s)) (l .inv .3))
+    omega (arith, c .before .spare .ensures .0, base-small (bitsOf s) (8 * l .i) _ _ _ (omega (arith, bits-length s)) (l .inv .2))
 
 loop-less : tie.Need-loop-less Inv-loop μ-loop
 loop-less c = search needs
@@ -79,18 +79,18 @@ loop-again c =
     let s = c .before .before .before .before .before .before .before .before .before .args .symbols .now in
     let l = c .before .before .before .before .before .before .loop in
     let o = c .before .before .before .octet-back in
-    let words = o .ensures .1 .at (l .base) (words-at (bitsOf s) (8 * l .i) (8 * (l .i - 1) + 8) _ _ _ (omega arith) (l .inv .3)) in
+    let words = o .ensures .1 .at (l .base) (words-at (bitsOf s) (8 * l .i) (8 * (l .i - 1) + 8) _ _ _ (omega arith) (l .inv .2)) in
     let taken = row-spare (l .rows) _ (o .result) _ (omega arith) (c .before .spare .ensures .1) in (
       omega arith,
       simp length-set (l .inv .1),
-      words-below _ _ _ _ _ words taken _ (o .ensures .0) (c .lowered .ensures),
       words-next _ _ _ _ _ words taken _ (c .lowered .ensures),
+      words-below _ _ _ _ _ words taken _ (o .ensures .0) (c .lowered .ensures),
       rows-more (bitsOf s) (l .i - 1) _ _ _ _ (omega arith) words (rows-at (bitsOf s) (l .i) (l .i - 1 + 1) _ _ (omega arith) (l .inv .4)),
     )
 
 returns : tie.Need-returns Inv-loop μ-loop
 returns c = (
-  words-at (bitsOf (c .before .before .before .before .args .symbols .now)) (8 * c .before .loop .i) 0 _ _ _ (omega arith) (c .before .loop .inv .3),
+  words-at (bitsOf (c .before .before .before .before .args .symbols .now)) (8 * c .before .loop .i) 0 _ _ _ (omega arith) (c .before .loop .inv .2),
   rows-at _ (c .before .loop .i) 0 _ _ (omega arith) (c .before .loop .inv .4),
 )
 
