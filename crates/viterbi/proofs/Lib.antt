@@ -14,3 +14,4 @@ pub mod Settled
 pub mod Promises
 pub mod Returning
 pub mod Portions
+pub mod Tried
