@@ -1,4 +1,4 @@
--- The conditions of acceptance for the whole: what receive makes of a transmitted block, and condition 1 of all eleven calls.
+-- The conditions of acceptance for the whole: what receive makes of a transmitted block, and condition 1 of all twelve calls.
 use mathlib.Core.Path.{_≡_, refl, sym, ap, ap₂, _∙_, subst}
 use mathlib.Core.Bool.{Bool, true, false, not}
 use mathlib.Core.Logic.{_≢_}
@@ -10,7 +10,7 @@ use lib.ListN.{length, drop, getD, replicate, length-drop, length-replicate, get
 use lib.Seq.{take-at, ext-getD}
 use Rattle.refusals.specs.Order.{Check, FirstOf}
 use Rattle.refusals.specs.Numbers.{verdictNumber}
-use Rattle.refusals.specs.Calls.{encodeOrder, portionOrder, closeOrder, decodeOrder, randomiseOrder, convolveOrder, coderCloseOrder, markerOrder, searchOrder, transmitOrder, receiveParameters, receiveOrder}
+use Rattle.refusals.specs.Calls.{encodeOrder, portionOrder, closeOrder, decodeOrder, randomiseOrder, convolveOrder, coderCloseOrder, likeliestOrder, markerOrder, searchOrder, transmitOrder, receiveParameters, receiveOrder}
 use Rattle.refusals.specs.declared.Verdict.{Verdict}
 use Rattle.refusals.specs.declared.Verdict.the-variants.{Accepted}
 use Rattle.refusals.proofs.Orders.{Clear, clear-accepted}
@@ -29,6 +29,8 @@ use Rattle.convolution.specs.Outcome as coder
 use Rattle.convolution.specs.declared.State.{State}
 use Rattle.convolution.specs.declared.Ran.{Ran}
 use Rattle.convolution.specs.declared.Convolved.{Convolved}
+use Rattle.viterbi.specs.Outcome.{soughtNumber, LikeliestOutcome}
+use Rattle.viterbi.specs.declared.Sought.{Sought}
 use Rattle.reed_solomon.specs.declared.Decoded.{Decoded}
 use Rattle.reed_solomon.specs.declared.Decoded.the-variants as decoded
 use Rattle.reed_solomon.specs.Blocks.{wordOf, sentFrom, sum}
@@ -229,7 +231,7 @@ module _ (e i q : ℕ) (flag : Bool) (frame before : List ℕ) (v : Verdict) (ma
 abbrev pub FirstAndKept : List Check → ℕ → Type 0 → Type 0
 FirstAndKept order number kept = FirstOf order number × (number ≢ 0 → kept)
 
--- The eleven calls; the marker test and the search are lent their octets to be read only, and so have nothing to keep.
+-- The twelve calls; the marker test and the search are lent their octets to be read only, and so have nothing to keep.
 pub record ConditionOne : Type 0 where
   pub encode : (e i q : ℕ) (frame before : List ℕ) (answer : Verdict) (after : List ℕ) → EncodeOutcome e i q frame before answer after
       → FirstAndKept (encodeOrder e i q (length frame) (length before)) (verdictNumber answer) (after ≡ before)
@@ -248,6 +250,8 @@ pub record ConditionOne : Type 0 where
       ((ran .state ≡ state) × (after ≡ before))
   pub coderClose : (rate : ℕ) (state : State) (before : List ℕ) (answer : Convolved) (after : List ℕ) → coder.CloseOutcome rate state before answer after
       → FirstAndKept (coderCloseOrder rate (state .register) (state .place) (state .holds) (length before)) (coder.convolvedNumber answer) (after ≡ before)
+  pub likeliest : (register : ℕ) (received before : List ℕ) (answer : Sought) (after : List ℕ) → LikeliestOutcome register received before answer after
+      → FirstAndKept (likeliestOrder register (length received) (length before)) (soughtNumber answer) (after ≡ before)
   pub test : (t : ℕ) (octets : List ℕ) (answer : Tested) → TestOutcome t octets answer
       → FirstAndKept (markerOrder t (length octets) (fewestWrong octets 0)) (testedNumber answer) Unit
   pub search : (t : ℕ) (stream : List ℕ) (start budget : ℕ) (answer : Searched) → SearchOutcome t stream start budget answer
@@ -268,6 +272,7 @@ condition-one =
       randomise = λ before answer after O. (O .number, O .refused);
       convolve = λ rate state octets before ran after O. (O .number, O .refused);
       coderClose = λ rate state before answer after O. (O .number, O .refused);
+      likeliest = λ register received before answer after O. (O .number, O .refused);
       test = λ t octets answer O. (O .number, λ n. tt);
       search = λ t stream start budget answer O. (O .number, λ n. tt);
       transmit = λ e i q flag frame before answer after O. (O .number, O .refused);

@@ -23,12 +23,15 @@ use Rattle.marker.specs.declared.Tested.the-variants as tested
 use Rattle.marker.specs.declared.Searched.{Searched}
 use Rattle.marker.specs.declared.Searched.the-variants as searched
 use Rattle.marker.specs.Outcome.{searchedNumber, TestOutcome}
+use Rattle.viterbi.specs.declared.Sought.{Sought}
+use Rattle.viterbi.specs.declared.Sought.the-variants as sought
+use Rattle.viterbi.specs.Outcome.{soughtNumber, LikeliestOutcome}
 use Rattle.chain.specs.declared.Stage.{Stage}
 use Rattle.chain.specs.declared.Stage.the-variants as stage
 use Rattle.chain.specs.declared.Received.{Received}
 use Rattle.chain.specs.declared.Received.the-variants as received
 use Rattle.chain.specs.Outcome.{ReceiveOutcome, receivedNumber, receivedValue}
-use Rattle.ironsimmer.specs.Exported.{code, truth, formNumber, decodeListed, receiveListed, testReport, searchReport, Lent, DecodingCall, DecodeCall, MarkerCall, Reported}
+use Rattle.ironsimmer.specs.Exported.{code, truth, formNumber, decodeListed, receiveListed, testReport, searchReport, soughtReport, Lent, DecodingCall, DecodeCall, MarkerCall, LikeliestCall, Reported}
 
 -- ---- one number for an answer
 
@@ -91,6 +94,27 @@ module _ (tolerance : ℕ) (octets before : List ℕ) {answer : Tested} where
         coded = λ z. c;
         accepted = λ z. absurd (marker-nonzero r z);
         lent = lent-refused (markerNumber r) [] before (marker-nonzero r);
+      }
+
+module _ (register : ℕ) (symbols before reported after : List ℕ) {answer : Sought} (o : LikeliestOutcome register symbols before answer after) where
+  pub likeliest-found : (places reached : ℕ) → answer ≡ sought.Found places reached
+      → LikeliestCall register symbols before reported 0 after (places ∷ reached ∷ [])
+  likeliest-found places reached e =
+      record {
+        answered = answer;
+        outcome = o;
+        coded = ap soughtNumber (sym e);
+        lent = lent-accepted (soughtNumber answer) (soughtReport answer) reported (places ∷ reached ∷ []) (ap soughtNumber e) (ap soughtReport (sym e));
+      }
+
+  pub likeliest-refused : (p : Parameter) (n : ℕ) → answer ≡ sought.Refused p → n ≡ parameterNumber p
+      → LikeliestCall register symbols before reported n after reported
+  likeliest-refused p n e c =
+      record {
+        answered = answer;
+        outcome = o;
+        coded = known-answer soughtNumber e c;
+        lent = lent-refused (soughtNumber answer) (soughtReport answer) reported (λ z. parameter-nonzero p (ap soughtNumber (sym e) ∙ z));
       }
 
 -- Decode and receive, over what is permitted of their answers.

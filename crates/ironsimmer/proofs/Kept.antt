@@ -11,7 +11,8 @@ use Rattle.chain.specs.declared.Received.{Received}
 use Rattle.chain.specs.declared.Received.the-variants as received
 use Rattle.chain.specs.Outcome.{receivedNumber, receivedValue}
 use Rattle.convolution.specs.Outcome.{convolvedNumber}
-use Rattle.ironsimmer.specs.Exported.{code, EncodeCall, PortionCall, CloseCall, RandomiseCall, TransmitCall, DecodeCall, ReceiveCall, MarkerCall, SearchCall, ConvolveCall, ConvolveCloseCall}
+use Rattle.viterbi.specs.Outcome.{soughtNumber}
+use Rattle.ironsimmer.specs.Exported.{code, EncodeCall, PortionCall, CloseCall, RandomiseCall, TransmitCall, DecodeCall, ReceiveCall, MarkerCall, SearchCall, ConvolveCall, ConvolveCloseCall, LikeliestCall}
 use Rattle.ironsimmer.proofs.Answers.{word-nonzero, stage-nonzero}
 
 -- An answer other than 0 is one of a refusal.
@@ -23,7 +24,7 @@ received-refused : (a : Received) → code (receivedNumber a) (receivedValue a) 
 received-refused received.Delivered n = n
 received-refused (received.Refused s) n = stage-nonzero s
 
--- The eleven calls that can refuse: an answer other than 0 leaves every buffer, count, report and state as it was.
+-- The twelve calls that can refuse: an answer other than 0 leaves every buffer, count, report and state as it was.
 pub record KeptOnARefusal : Type 0 where
   pub encode : (e i q : ℕ) (frame before : List ℕ) (answer : ℕ) (after : List ℕ) → EncodeCall e i q frame before answer after → answer ≢ 0 → after ≡ before
   pub portion : (e i q : ℕ) (numbers : List ℕ) (rows : List (List ℕ)) (portion before : List ℕ) (answer : ℕ) (numbers′ : List ℕ) (rows′ : List (List ℕ)) (after : List ℕ)
@@ -40,6 +41,8 @@ pub record KeptOnARefusal : Type 0 where
       → ConvolveCall rate octets input before counted answer octets′ after count → answer ≢ 0 → (octets′ ≡ octets) × (after ≡ before) × (count ≡ counted)
   pub convolve-close : (rate : ℕ) (octets before : List ℕ) (counted answer : ℕ) (after : List ℕ) (count : ℕ)
       → ConvolveCloseCall rate octets before counted answer after count → answer ≢ 0 → (after ≡ before) × (count ≡ counted)
+  pub likeliest : (register : ℕ) (symbols before reported : List ℕ) (answer : ℕ) (after report : List ℕ)
+      → LikeliestCall register symbols before reported answer after report → answer ≢ 0 → (after ≡ before) × (report ≡ reported)
   pub transmit : (e i q randomised : ℕ) (frame before : List ℕ) (answer : ℕ) (after : List ℕ) → TransmitCall e i q randomised frame before answer after
       → answer ≢ 0 → after ≡ before
   pub receive : (e i q s t randomised : ℕ) (marked before reported : List ℕ) (answer : ℕ) (after report : List ℕ)
@@ -63,6 +66,8 @@ kept-on-a-refusal =
           (C .put .held .refused refuses, C .outcome .refused refuses .1, C .put .reported .lent .refused refuses);
       convolve-close = λ rate octets before counted answer after count C n.
           let refuses : convolvedNumber (C .convolved) ≢ 0 = λ z. n (C .put .coded ∙ z) in (C .outcome .refused refuses, C .put .lent .refused refuses);
+      likeliest = λ register symbols before reported answer after report C n.
+          let refuses : soughtNumber (C .answered) ≢ 0 = λ z. n (C .coded ∙ z) in (C .outcome .refused refuses, C .lent .refused refuses);
       transmit = λ e i q randomised frame before answer after C n. C .outcome .refused (λ z. n (C .coded ∙ z));
       receive = λ e i q s t randomised marked before reported answer after report C n.
           let refuses : receivedNumber (C .answered) ≢ 0 = received-refused (C .answered) (λ z. n (C .coded ∙ z)) in (C .outcome .refused refuses .0, C .lent .refused refuses);

@@ -20,9 +20,11 @@ use Rattle.convolution.specs.declared.Ran.{Ran}
 use Rattle.convolution.specs.declared.Convolved.{Convolved}
 use Rattle.convolution.specs.Outcome.{convolvedNumber, convolvedCount}
 use Rattle.convolution.proofs.Settled as coder
+use Rattle.viterbi.specs.Outcome.{soughtNumber}
+use Rattle.viterbi.proofs.Settled.{likeliest-settled}
 use Rattle.chain.specs.Outcome.{TransmitOutcome, receivedNumber, receivedValue}
 use Rattle.chain.proofs.Settled.{transmit-settled, receive-settled}
-use Rattle.ironsimmer.specs.Exported.{code, flag, truth, Lent, testReport, searchReport, stateOf, stateNumbers, coderOf, coderOctets, decodeListed, receiveListed, CountPut, VerdictCall, EncodeCall, PortioningCall, PortionCall, CloseCall, RandomiseCall, TransmitCall, DecodingCall, DecodeCall, ReceiveCall, MarkerCall, SearchCall, ConvolveCall, ConvolveCloseCall}
+use Rattle.ironsimmer.specs.Exported.{code, flag, truth, Lent, testReport, searchReport, soughtReport, stateOf, stateNumbers, coderOf, coderOctets, decodeListed, receiveListed, CountPut, VerdictCall, EncodeCall, PortioningCall, PortionCall, CloseCall, RandomiseCall, TransmitCall, DecodingCall, DecodeCall, ReceiveCall, MarkerCall, SearchCall, ConvolveCall, ConvolveCloseCall, LikeliestCall}
 
 -- ---- one law for each kind of call
 
@@ -134,6 +136,15 @@ module _ (m n : ℕ) (a b : List ℕ) where
   ironsimmer-convolve-close-settled rate octets before counted c d x y =
       let same = coder.close-settled rate (coderOf octets) before a b (x .convolved) (y .convolved) (x .outcome) (y .outcome) in
       let counts = count-put-settled _ _ counted m n c d (same .0) (x .put) (y .put) in (counts .0, same .1, counts .1)
+
+  pub ironsimmer-likeliest-settled : (register : ℕ) (symbols before reported r t : List ℕ) → LikeliestCall register symbols before reported m a r
+      → LikeliestCall register symbols before reported n b t → (m ≡ n) × (a ≡ b) × (r ≡ t)
+  ironsimmer-likeliest-settled register symbols before reported r t x y =
+      let same = likeliest-settled register symbols before a b (x .answered) (y .answered) (x .outcome) (y .outcome) in (
+        x .coded ∙ ap soughtNumber (same .0) ∙ sym (y .coded),
+        same .1,
+        lent-settled _ _ _ _ reported r t (ap soughtNumber (same .0)) (ap soughtReport (same .0)) (x .lent) (y .lent),
+      )
 
 pub ironsimmer-sequence-settled : (before o a p b : ℕ) → NextOutcome before o a → NextOutcome before p b → (o ≡ p) × (a ≡ b)
 ironsimmer-sequence-settled = next-bits-settled

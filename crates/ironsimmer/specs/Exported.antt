@@ -1,5 +1,5 @@
 -- What the exported calls answer and leave, by the outcomes of the calls beneath (document 01, "Refusal numbers and the order of checks"; document 02,
--- (ii), (iii) and (v)).
+-- (ii), (iii), (v) and (vi)).
 use mathlib.Core.Path.{_≡_}
 use mathlib.Core.Bool.{Bool, true, false, not}
 use mathlib.Core.Logic.{_≢_}
@@ -24,6 +24,8 @@ use Rattle.convolution.specs.declared.State.{State}
 use Rattle.convolution.specs.declared.Convolved.{Convolved}
 use Rattle.convolution.specs.declared.Ran.{Ran}
 use Rattle.convolution.specs.Outcome as coder
+use Rattle.viterbi.specs.declared.Sought.{Sought}
+use Rattle.viterbi.specs.Outcome.{soughtNumber, soughtPlaces, soughtRegister, LikeliestOutcome}
 use Rattle.chain.specs.Outcome.{TransmitOutcome, ReceiveOutcome, receivedNumber, receivedValue}
 
 -- An answer in one number: the refusal's number, 0 if accepted, in the lowest eight bits, and the refusal's value above them.
@@ -176,3 +178,14 @@ pub record ConvolveCloseCall (rate : ℕ) (octets before : List ℕ) (counted an
   pub convolved : Convolved
   pub outcome : coder.CloseOutcome rate (coderOf octets) before convolved after
   pub put : CountPut convolved counted answer count
+
+-- What an accepted search for the likeliest data reports: the differing places, and the register reached.
+abbrev pub soughtReport : Sought → List ℕ
+soughtReport answered = soughtPlaces answered ∷ soughtRegister answered ∷ []
+
+-- The likeliest data: the number of an answer and a buffer that the outcome permits, and the report put in place.
+pub record LikeliestCall (register : ℕ) (symbols before reported : List ℕ) (answer : ℕ) (after report : List ℕ) : Type 0 where
+  pub answered : Sought
+  pub outcome : LikeliestOutcome register symbols before answered after
+  pub coded : answer ≡ soughtNumber answered
+  pub lent : Lent (soughtNumber answered) (soughtReport answered) reported report

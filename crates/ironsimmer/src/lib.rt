@@ -6,10 +6,11 @@ mod portions;
 mod reports;
 
 ghost use Rattle.randomiser.specs.Outcome.{NextOutcome};
-ghost use Rattle.ironsimmer.specs.Exported.{EncodeCall, PortionCall, CloseCall, DecodeCall, RandomiseCall, MarkerCall, SearchCall, ConvolveCall, ConvolveCloseCall, TransmitCall, ReceiveCall};
+ghost use Rattle.ironsimmer.specs.Exported.{EncodeCall, PortionCall, CloseCall, DecodeCall, RandomiseCall, MarkerCall, SearchCall, ConvolveCall, ConvolveCloseCall, LikeliestCall, TransmitCall, ReceiveCall};
 use chain::Received;
 use marker::Tested;
 use reed_solomon::Decoded;
+use viterbi::Sought;
 
 #[no_mangle]
 pub extern "C" fn ironsimmer_encode(
@@ -154,6 +155,27 @@ pub extern "C" fn ironsimmer_convolve_close(
 {
     let lent = coder::state_of(state);
     coder::put_count(convolution::close(rate, lent, symbols), count)
+}
+
+#[no_mangle]
+pub extern "C" fn ironsimmer_likeliest(
+    register: u32,
+    symbols: &[u8],
+    data: &mut [u8],
+    found: &mut [u32; 2],
+) -> u64
+    ensures { λ r. ⌜ LikeliestCall register (now (symbols .entry)) (now («data» .entry)) (now (found .entry)) r (now («data» .exit)) (now (found .exit)) ⌝ }
+{
+    match viterbi::likeliest(register, symbols, data) {
+        Sought::Found {
+            places,
+            register: reached,
+        } => {
+            *found = [places, reached];
+            0
+        }
+        Sought::Refused(parameter) => refusals::parameter_number(parameter),
+    }
 }
 
 #[no_mangle]
