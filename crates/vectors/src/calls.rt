@@ -1,4 +1,4 @@
-// Encode, in one call and in portions, decode, transmit, receive and convolve, each with the line that its outcome makes.
+// Encode, in one call and in portions, decode, transmit, receive, convolve and its decoding, each with the line that its outcome makes.
 use crate::print;
 use chain::Received;
 use chain::Stage;
@@ -10,6 +10,7 @@ use reed_solomon::Progress;
 use reed_solomon::Row;
 use refusals::MarkerRefusal;
 use refusals::WordRefusal;
+use viterbi::Sought;
 
 fn code(e: u32, depth: u32, fill: u32) {
     print::number(e as u64);
@@ -239,4 +240,30 @@ pub(crate) fn convolve_close(rate: u32, state: State, symbols: &mut [u8]) {
     convolved(answer);
     print::buffer(symbols);
     print::end();
+}
+
+// The register to carry on from is the one reached, or after a refusal the given one.
+fn sought(before: u32, answer: Sought) -> u32 {
+    match answer {
+        Sought::Found { places, register } => {
+            print::number(0);
+            print::number(places as u64);
+            print::number(register as u64);
+            register
+        }
+        Sought::Refused(p) => {
+            print::number(refusals::parameter_number(p));
+            before
+        }
+    }
+}
+
+pub(crate) fn likeliest(register: u32, received: &[u8], found: &mut [u8]) -> u32 {
+    print::text(b"likeliest");
+    print::number(register as u64);
+    let answer = viterbi::likeliest(register, received, &mut *found);
+    let after = sought(register, answer);
+    print::buffer(found);
+    print::end();
+    after
 }

@@ -6,7 +6,7 @@ use crate::portioning;
 use crate::print;
 use convolution::State;
 
-fn state_at(register: u8, place: u8, holds: u8, held: u8) -> State {
+pub(crate) fn state_at(register: u8, place: u8, holds: u8, held: u8) -> State {
     State {
         register: register,
         place: place,

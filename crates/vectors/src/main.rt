@@ -4,6 +4,7 @@ mod calls;
 mod chaining;
 mod coding;
 mod convolving;
+mod likeliest;
 mod limits;
 mod marking;
 mod portioning;
@@ -16,6 +17,7 @@ fn main() {
     randomising::all();
     marking::all();
     convolving::all();
+    likeliest::all();
     limits::all();
     coding::all();
     portioning::all();

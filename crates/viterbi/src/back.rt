@@ -6,9 +6,9 @@ ghost use Rattle.convolution.specs.Coder.{bitsOf};
 ghost use Rattle.viterbi.specs.Working.{Pair, Costs, Below, Words, OctetBack, Rows};
 use crate::Start;
 use crate::costs::cost_list;
-use crate::words::bit_back;
-use crate::words::lowered;
-use crate::words::spare;
+use crate::steps::bit_back;
+use crate::steps::lowered;
+use crate::steps::spare;
 
 // The pair of symbols of bit t.
 fn pair_at(symbols: &[u8], t: usize) -> usize

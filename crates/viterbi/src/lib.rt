@@ -1,8 +1,8 @@
 // The decoder of the convolutional code at rate 1/2: of all inputs the one whose symbols differ from the received ones in the fewest places.
 mod back;
 mod costs;
+mod steps;
 mod walk;
-mod words;
 
 ghost use Rattle.viterbi.specs.Outcome.{LikeliestOutcome};
 use back::rows_back;

@@ -40,7 +40,7 @@ fn period(rate: u32, state: Coder) -> Result<usize, u64> {
 }
 
 /// The symbols of all the bits but the first six, which only stand before them. The first of these is at the given place of the period.
-fn symbols(rate: u32, place: u8, bits: &[bool]) -> Vec<bool> {
+pub fn symbols(rate: u32, place: u8, bits: &[bool]) -> Vec<bool> {
     let sum = |taps: &[usize], last: &[bool]| taps.iter().filter(|&&t| last[6 - t]).count() % 2 == 1;
     let (first, second) = PATTERNS[rate as usize - 1];
     let sends = |pattern: &str, n: usize| pattern.as_bytes()[(place as usize + n) % pattern.len()] == b'1';

@@ -8,6 +8,8 @@ pub mod compare;
 pub mod convolution;
 pub mod data;
 pub mod field;
+pub mod likeliest;
+pub mod likeliest_cases;
 pub mod limits;
 pub mod marker;
 pub mod portion_cases;

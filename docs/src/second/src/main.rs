@@ -2,7 +2,10 @@
 //! `second NAME` writes what the program NAME must write; `second report-input NAME` and `second report-output NAME` write what a
 //! report program reads and what it must write of that.
 
-use second::{chain, coder_cases, compare, limits, marker, portion_cases, randomiser, reed_solomon, report, symbols};
+use second::{
+    chain, coder_cases, compare, likeliest_cases, limits, marker, portion_cases, randomiser, reed_solomon, report,
+    symbols,
+};
 
 fn main() {
     let argument = |n: usize| std::env::args().nth(n).unwrap_or_default();
@@ -12,6 +15,7 @@ fn main() {
             randomiser::write_all();
             marker::write_all();
             coder_cases::write_all();
+            likeliest_cases::write_all();
             limits::write_all();
             reed_solomon::write_all();
             portion_cases::write_all();

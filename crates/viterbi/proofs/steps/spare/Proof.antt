@@ -1,8 +1,8 @@
 -- `spare` makes the test itself.
 use borrow.Author.Needs.{needs}
 use borrow.Author.Tests.{lt-ltb, le-ltb}
-use Rattle.viterbi.proofs.words.spare.Statement.{statement}
-use Rattle.viterbi.proofs.words.spare.Tie as tie
+use Rattle.viterbi.proofs.steps.spare.Statement.{statement}
+use Rattle.viterbi.proofs.steps.spare.Tie as tie
 
 returns : tie.Need-returns
 returns c = (search needs, rw (lt-ltb _ _ (c .if1 .taken)))

@@ -1,8 +1,8 @@
 -- `cheaper` compares the two sums.
 use native.Mathlib.Omega.{arith}
 use borrow.Author.Needs.{needs}
-use Rattle.viterbi.proofs.words.cheaper.Statement.{statement}
-use Rattle.viterbi.proofs.words.cheaper.Tie as tie
+use Rattle.viterbi.proofs.steps.cheaper.Statement.{statement}
+use Rattle.viterbi.proofs.steps.cheaper.Tie as tie
 
 add-zero : tie.Need-add-zero
 add-zero c = search needs

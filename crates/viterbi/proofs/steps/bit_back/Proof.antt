@@ -5,8 +5,8 @@ use native.Mathlib.Omega.{arith}
 use borrow.Author.Needs.{needs}
 use Rattle.viterbi.specs.Working.{earlier}
 use Rattle.viterbi.proofs.Stepping.{Half, half-none, half-more, half-whole, low-value, high-value}
-use Rattle.viterbi.proofs.words.bit_back.Statement.{statement}
-use Rattle.viterbi.proofs.words.bit_back.Tie as tie
+use Rattle.viterbi.proofs.steps.bit_back.Statement.{statement}
+use Rattle.viterbi.proofs.steps.bit_back.Tie as tie
 
 abbrev Inv-loop : tie.InvT-loop
 Inv-loop costs pair weight words after₀ r₀ after r = (r ≤ 32) × Half (earlier words pair weight) r after

@@ -4,8 +4,8 @@ use Prim.Native.Nat.{_-_, _≤_}
 use native.Mathlib.Omega.{arith}
 use borrow.Author.Needs.{needs}
 use Rattle.viterbi.proofs.Stepping.{LoweredTo, lowered-none, lowered-more}
-use Rattle.viterbi.proofs.words.lowered.Statement.{statement}
-use Rattle.viterbi.proofs.words.lowered.Tie as tie
+use Rattle.viterbi.proofs.steps.lowered.Statement.{statement}
+use Rattle.viterbi.proofs.steps.lowered.Tie as tie
 
 abbrev Inv-loop : tie.InvT-loop
 Inv-loop taken words after₀ r₀ after r = (r ≤ 64) × LoweredTo taken words r after
