@@ -11,29 +11,29 @@ use Rattle.viterbi.specs.Working.{pairBranch, Serves, Costs}
 
 unfoldable pub serving : ℕ → ℕ → ℕ → Bool
 serving pair register cost =
-    both (leb cost 2)
-    (both (eqb cost (pairBranch pair register 0))
-    (both (eqb (2 - cost) (pairBranch pair register 1))
-    (both (eqb (2 - cost) (pairBranch pair (register + 32) 0))
-    (eqb cost (pairBranch pair (register + 32) 1)))))
+    both (leb cost 512)
+    (both (eqb cost (256 * pairBranch pair register 0))
+    (both (eqb (512 - cost) (256 * pairBranch pair register 1))
+    (both (eqb (512 - cost) (256 * pairBranch pair (register + 32) 0))
+    (eqb cost (256 * pairBranch pair (register + 32) 1)))))
 
 serves : (pair register cost : ℕ) → T (serving pair register cost) → Serves pair register cost
 unfolding serving
 serves pair register cost t =
-    let zero-low = eqb cost (pairBranch pair register 0) in
-    let one-low = eqb (2 - cost) (pairBranch pair register 1) in
-    let zero-high = eqb (2 - cost) (pairBranch pair (register + 32) 0) in
-    let one-high = eqb cost (pairBranch pair (register + 32) 1) in
+    let zero-low = eqb cost (256 * pairBranch pair register 0) in
+    let one-low = eqb (512 - cost) (256 * pairBranch pair register 1) in
+    let zero-high = eqb (512 - cost) (256 * pairBranch pair (register + 32) 0) in
+    let one-high = eqb cost (256 * pairBranch pair (register + 32) 1) in
     let high = both zero-high one-high in
-    let t1 = both-right (leb cost 2) (both zero-low (both one-low high)) t in
+    let t1 = both-right (leb cost 512) (both zero-low (both one-low high)) t in
     let t2 = both-right zero-low (both one-low high) t1 in
     let t3 = both-right one-low high t2 in
     record {
-      most = leb→le cost 2 (both-left (leb cost 2) (both zero-low (both one-low high)) t);
-      zero-low = eqb→eq cost (pairBranch pair register 0) (both-left zero-low (both one-low high) t1);
-      one-low = eqb→eq (2 - cost) (pairBranch pair register 1) (both-left one-low high t2);
-      zero-high = eqb→eq (2 - cost) (pairBranch pair (register + 32) 0) (both-left zero-high one-high t3);
-      one-high = eqb→eq cost (pairBranch pair (register + 32) 1) (both-right zero-high one-high t3);
+      most = leb→le cost 512 (both-left (leb cost 512) (both zero-low (both one-low high)) t);
+      zero-low = eqb→eq cost (256 * pairBranch pair register 0) (both-left zero-low (both one-low high) t1);
+      one-low = eqb→eq (512 - cost) (256 * pairBranch pair register 1) (both-left one-low high t2);
+      zero-high = eqb→eq (512 - cost) (256 * pairBranch pair (register + 32) 0) (both-left zero-high one-high t3);
+      one-high = eqb→eq cost (256 * pairBranch pair (register + 32) 1) (both-right zero-high one-high t3);
     }
 
 pub costs-listed : (list : List ℕ) → T (allBelow 128 (λ k. serving (k / 32) (k % 32) (getD list k 0))) → Costs list

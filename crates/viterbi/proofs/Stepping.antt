@@ -76,7 +76,7 @@ module _ (words : List ℕ) (pair weight i x : ℕ) (h : i < 32) (serves : Serve
   at-odd : (place : ℕ) → place ≡ 2 * i + 1 → getD words (2 * i + 1) 0 ≡ getD words place 0
   at-odd place e = ap (λ (k : ℕ). getD words k 0) (sym e)
 
-  pub low-value : min (256 * x + getD words (2 * i) 0) (512 - 256 * x + (getD words (2 * i + 1) 0 + weight)) ≡ earlier words pair weight i
+  pub low-value : min (x + getD words (2 * i) 0) (512 - x + (getD words (2 * i + 1) 0 + weight)) ≡ earlier words pair weight i
   low-value =
       omega (
         arith,
@@ -87,7 +87,7 @@ module _ (words : List ℕ) (pair weight i x : ℕ) (h : i < 32) (serves : Serve
         at-odd (nextRegister i 1) (next-low i 1 h (omega arith)),
       )
 
-  pub high-value : min (512 - 256 * x + getD words (2 * i) 0) (256 * x + (getD words (2 * i + 1) 0 + weight)) ≡ earlier words pair weight (i + 32)
+  pub high-value : min (512 - x + getD words (2 * i) 0) (x + (getD words (2 * i + 1) 0 + weight)) ≡ earlier words pair weight (i + 32)
   high-value =
       omega (
         arith,

@@ -40,13 +40,13 @@ pub record Pair (received : List ℕ) (t pair : ℕ) : Type 0 where
 abbrev pub pairBranch : ℕ → ℕ → ℕ → ℕ
 pairBranch pair register bit = branch register bit (pair / 2) (pair % 2)
 
--- A listed cost serves four branches, since both vectors have the present and the oldest bit.
+-- A listed cost, times 256, serves four branches, since both vectors have the present and the oldest bit.
 pub record Serves (pair register cost : ℕ) : Type 0 where
-  pub most : cost ≤ 2
-  pub zero-low : cost ≡ pairBranch pair register 0
-  pub one-low : 2 - cost ≡ pairBranch pair register 1
-  pub zero-high : 2 - cost ≡ pairBranch pair (register + 32) 0
-  pub one-high : cost ≡ pairBranch pair (register + 32) 1
+  pub most : cost ≤ 512
+  pub zero-low : cost ≡ 256 * pairBranch pair register 0
+  pub one-low : 512 - cost ≡ 256 * pairBranch pair register 1
+  pub zero-high : 512 - cost ≡ 256 * pairBranch pair (register + 32) 0
+  pub one-high : cost ≡ 256 * pairBranch pair (register + 32) 1
 
 -- So the list has it for each pair and each register below 32.
 pub record Costs (list : List ℕ) : Type 0 where

@@ -26,7 +26,7 @@ pub(crate) fn bit_back(words: [u16; 64], costs: &[u16; 128], pair: usize, weight
     for r in 0..32 {
         let zero = words[2 * r];
         let one = words[2 * r + 1] + weight;
-        let x = 256 * cost_at(costs, pair, r);
+        let x = cost_at(costs, pair, r);
         let y = 512 - x;
         after[r] = cheaper(x, zero, y, one);
         after[r + 32] = cheaper(y, zero, x, one);

@@ -44,9 +44,6 @@ add-one-2 c = omega (arith, c .before .before .pre .2 .at (2 * c .before .loop .
 cost-at-requires : tie.Need-cost-at-requires Inv-loop μ-loop
 cost-at-requires c κs = search needs
 
-mul-x : tie.Need-mul-x Inv-loop μ-loop
-mul-x c = search needs
-
 sub-y : tie.Need-sub-y Inv-loop μ-loop
 sub-y c = search needs
 
@@ -114,7 +111,6 @@ bit-back-spec =
     array-read-one
     add-one-2
     cost-at-requires
-    mul-x
     sub-y
     cheaper-requires
     mul-after
