@@ -16,7 +16,8 @@ places register received input = differing (symbolsFrom 1 register 0 (bitsOf inp
 abbrev pub First : List ℕ → List ℕ → Type 0
 First one other = (k : ℕ) → take k one ≡ take k other → getD one k 0 ≢ getD other k 0 → getD one k 0 ≡ 0
 
--- No input of that length differs in fewer places; and of those that differ in as few it is the first.
+-- No input of that length differs in fewer places; and of those that differ in as few it is the first. An input is any list: of a number that is no
+-- octet the eight lowest bits are coded.
 pub record Best (register : ℕ) (received input : List ℕ) : Type 0 where
   pub least : (other : List ℕ) → length other ≡ length input → places register received input ≤ places register received other
   pub first : (other : List ℕ) → length other ≡ length input → places register received other ≡ places register received input →

@@ -35,7 +35,8 @@ fn octet_back(symbols: &[u8], costs: &[u16; 128], i: usize, behind: [u16; 64]) -
     words
 }
 
-// The row of each octet gets the words in front of it; the result is the costs to go at the start.
+// The row of each octet gets the words in front of it; the result is the costs to go at the start. The first word is read off the row, since words
+// of which one is read alone would not stay in vectors.
 pub(crate) fn rows_back(symbols: &[u8], rows: &mut [[u16; 64]; 256]) -> Start
     requires { ⌜ (length (now symbols) ≤ 512) × (length (now symbols) % 2 ≡ 0) × (length (now rows) ≡ 256) ⌝ }
     ensures { λ r. ⌜ Words (bitsOf (now (symbols .entry))) 0 0 (r .base) (r .words) × Rows (bitsOf (now (symbols .entry))) 0 (length (now (symbols .entry)) / 2) (now (rows .exit)) ⌝ }
