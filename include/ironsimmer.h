@@ -161,6 +161,24 @@ uint64_t ironsimmer_convolve(uint32_t rate, uint8_t state[4], const uint8_t *dat
 uint64_t ironsimmer_convolve_close(uint32_t rate, const uint8_t state[4], uint8_t *symbols, size_t symbols_len, uint32_t *count);
 
 /*
+ * Decodes the symbols of n octets of data at rate 1/2, n from 0 to 256: 2n octets of symbols, top bit first, as ironsimmer_convolve
+ * writes them at rate 1 if none are held. Of all inputs of n octets, data gets the one whose symbols differ from these in the fewest
+ * places; of several such inputs, the one that has 0 at the first bit where they differ. The inputs are coded from `reg`, the coder's
+ * register when it wrote the first of these symbols: the last six bits of the stream before them, the newest lowest, 0 at its start. The
+ * register at the end is free. found holds the number of differing places, then the register that the data lead to: their last six
+ * bits, or `reg` if there are no data.
+ *
+ * That register may be handed on to the next call. Symbols that arrived as they were sent are so decoded in any portions. But decoding
+ * in portions is not decoding in one piece: a portion is judged by its own symbols alone, so that with wrong symbols near its end its
+ * last bits may be others than in one piece, and the next portion then starts from another register than the coder did.
+ *
+ * 7 is due if `reg` is over 63, 5 if the octets of symbols are an odd number or over 512, 6 if data has not half as many.
+ * Refuses by 7, 5, 6, and then leaves data and found as they were.
+ */
+uint64_t ironsimmer_likeliest(uint32_t reg, const uint8_t *symbols, size_t symbols_len,
+                              uint8_t *data, size_t data_len, uint32_t found[2]);
+
+/*
  * Codes a frame as encode does, randomises the block unless `randomised` is 0, and puts the marker in front: (255 - Q) I + 4 octets.
  * Nothing in the marked block says whether it was randomised. The receiver must be told: with the other flag it may deliver another
  * frame and count nothing wrong (see ironsimmer_receive).

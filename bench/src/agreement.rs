@@ -187,6 +187,27 @@ fn coder(draw: &mut Draw, sides: &[&dyn Calls]) -> bool {
     answer == 0
 }
 
+/// A decoding at rate 1/2 of coded symbols, of which none to half are wrong; now and then a number is past its limit. Whether it was
+/// accepted.
+fn decoder(draw: &mut Draw, sides: &[&dyn Calls]) -> bool {
+    let n = [0, 1, 2, 3, 16, 60, 255, 256, 257][draw.below(9)];
+    let data = draw.octets(n);
+    let register = draw.below(64) as u8;
+    let (mut state, mut count) = ([register, 0, 0, 0], 0);
+    let mut symbols = vec![0; 2 * n];
+    sides[0].convolve(1, &mut state, &data, &mut symbols, &mut count);
+    let percent = [0, 1, 5, 10, 25, 50][draw.below(6)];
+    draw.noise(&mut symbols, percent);
+    symbols.resize(about(draw, 2 * n), 170);
+    let register = one_of(draw, &[register.into()], &[63, 64, 255, 256, u32::MAX]);
+    let fresh = Lent::new(about(draw, n));
+    let what = format!("likeliest, register {register}, {n} octets");
+    let (answer, _) = alike(sides, &fresh, &what, |side, lent| {
+        side.likeliest(register, &symbols, &mut lent.octets, &mut lent.likeliest)
+    });
+    answer == 0
+}
+
 fn randomise(draw: &mut Draw, sides: &[&dyn Calls]) {
     let n = [0, 1, 2, 5, 255, 1275, 2040, 2041, 2044][draw.below(9)];
     alike(sides, &Lent::new(n), "randomise", |side, lent| {
@@ -201,6 +222,8 @@ pub struct Sweep {
     pub decoded: [usize; 11],
     /// How many calls of the convolutional coder were accepted.
     pub convolved: usize,
+    /// How many decodings at rate 1/2 were accepted.
+    pub likeliest: usize,
     /// How many searches were refused, found the marker, found nothing, and spent their budget.
     pub searched: [usize; 4],
     /// How many of those that found it found the complement.
@@ -214,6 +237,7 @@ pub fn of_sweep(sides: &[&dyn Calls], draws: usize) -> Sweep {
         sweep.decoded[words(&mut draw, sides) as usize] += 1;
         portions(&mut draw, sides);
         sweep.convolved += usize::from(coder(&mut draw, sides));
+        sweep.likeliest += usize::from(decoder(&mut draw, sides));
         randomise(&mut draw, sides);
         if n % 2 == 0 {
             let (number, [kind, form]) = stream(&mut draw, sides);

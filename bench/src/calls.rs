@@ -81,5 +81,13 @@ pub trait Calls {
 
     fn convolve_close(&self, rate: u32, state: &Coder, symbols: &mut [u8], count: &mut u32) -> u64;
 
+    fn likeliest(
+        &self,
+        register: u32,
+        symbols: &[u8],
+        data: &mut [u8],
+        found: &mut [u32; 2],
+    ) -> u64;
+
     fn randomise(&self, block: &mut [u8]) -> u64;
 }

@@ -4,8 +4,9 @@ use crate::calls::{filled_len, Calls, Code, Coder, State};
 use crate::calls::{ABSENT, COMPLEMENT, FOUND, MARKER, SPENT, TRUE};
 use crate::data::{put, Draw};
 
-/// Different inputs in turn, so that no side's branches are learnt by heart.
+/// Different inputs in turn, so that no side's branches are learnt by heart. Those of likeliest are short, and so there are more.
 const INPUTS: usize = 20;
+const SHORT_INPUTS: usize = 200;
 const STREAM: usize = 65536;
 const PLACES: u64 = 8 * STREAM as u64 - 31;
 
@@ -16,6 +17,7 @@ pub struct Lent {
     pub counts: [u32; 9],
     pub found: [u64; 5],
     pub count: u32,
+    pub likeliest: [u32; 2],
     pub state: State,
     pub coder: Coder,
 }
@@ -28,6 +30,7 @@ impl Lent {
             counts: [170; 9],
             found: [170; 5],
             count: 170,
+            likeliest: [170; 2],
             state: State::start(),
             coder: [0; 4],
         }
@@ -47,6 +50,8 @@ enum Work {
     Convolve(u32, Coder),
     /// From the start in calls of so many octets, which fill so many each, and the close.
     Stream(u32, usize, Vec<usize>),
+    /// From a register.
+    Likeliest(u32),
     Randomise,
 }
 
@@ -79,6 +84,7 @@ impl Case {
                 side.convolve(rate, &mut lent.coder, read, out, &mut lent.count)
             }
             Work::Stream(rate, size, ref filled) => in_calls(side, rate, size, filled, read, lent),
+            Work::Likeliest(register) => side.likeliest(register, read, out, &mut lent.likeliest),
             Work::Randomise => side.randomise(out),
         }
     }
@@ -86,17 +92,21 @@ impl Case {
     /// In how many forms the baseline does the work.
     pub fn forms(&self) -> usize {
         match self.work {
-            Work::Convolve(..) | Work::Stream(..) => 3,
+            Work::Convolve(..) | Work::Stream(..) | Work::Likeliest(_) => 3,
             Work::Decode(_) | Work::Search(..) => 2,
             _ => 1,
         }
     }
 
     fn new(name: String, work: Work, octets: usize, input: impl FnMut() -> Input) -> Case {
+        let inputs = match work {
+            Work::Likeliest(_) => SHORT_INPUTS,
+            _ => INPUTS,
+        };
         Case {
             name,
             work,
-            inputs: std::iter::repeat_with(input).take(INPUTS).collect(),
+            inputs: std::iter::repeat_with(input).take(inputs).collect(),
             fresh: Lent::new(octets),
         }
     }
@@ -321,6 +331,25 @@ fn stream(draw: &mut Draw, side: &dyn Calls, rate: u32, size: usize) -> Case {
     )
 }
 
+/// Symbols that were coded from a register, 5 in 100 of them wrong.
+fn likeliest(draw: &mut Draw, side: &dyn Calls, octets: usize) -> Case {
+    let register = 45;
+    let input = || {
+        let mut symbols = vec![0; 2 * octets];
+        let (mut state, mut count) = ([register, 0, 0, 0], 0);
+        let data = draw.octets(octets);
+        let number = side.convolve(1, &mut state, &data, &mut symbols, &mut count);
+        assert_eq!(number, 0);
+        draw.noise(&mut symbols, 5);
+        Input {
+            read: symbols,
+            expected: None,
+        }
+    };
+    let name = format!("likeliest, n {octets}, 5 in 100 symbols wrong");
+    Case::new(name, Work::Likeliest(register.into()), octets, input)
+}
+
 /// In place: each call undoes the one before, on every side alike.
 fn randomise() -> Case {
     let input = || Input {
@@ -348,6 +377,9 @@ pub fn all(side: &dyn Calls) -> Vec<Case> {
     }
     cases.push(convolve(&mut draw, 1, [45, 0, 3, 0xA0], ", 3 held"));
     cases.push(stream(&mut draw, side, 5, 16));
+    for octets in [1, 16, 256] {
+        cases.push(likeliest(&mut draw, side, octets));
+    }
     cases.push(randomise());
     cases
 }

@@ -19,6 +19,15 @@ impl Draw {
         (0..n).map(|_| self.below(256) as u8).collect()
     }
 
+    /// Inverts each bit so many times in a hundred.
+    pub fn noise(&mut self, octets: &mut [u8], percent: usize) {
+        for bit in 0..8 * octets.len() {
+            if self.below(100) < percent {
+                octets[bit / 8] ^= 128 >> (bit % 8);
+            }
+        }
+    }
+
     /// Changes so many symbols of each of a block's words, at different places.
     pub fn damage(&mut self, block: &mut [u8], depth: usize, wrong: usize) {
         for w in 0..depth {

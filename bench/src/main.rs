@@ -40,9 +40,9 @@ fn compare(sides: &[&dyn Calls], cases: &[Case]) {
     let [refused, found, absent, spent] = sweep.searched;
     println!(
         "The sides agree on {DRAWS} draws of parameters and data (decode delivered {}, refused {} by 10, the rest by 1 to 6; \
-         convolve accepted {}; search found {found}, {} of them complements, absent {absent}, spent {spent}, refused {refused}), \
-         and on every timed input.",
-        sweep.decoded[0], sweep.decoded[10], sweep.convolved, sweep.complements
+         convolve accepted {}, likeliest {}; search found {found}, {} of them complements, absent {absent}, spent {spent}, \
+         refused {refused}), and on every timed input.",
+        sweep.decoded[0], sweep.decoded[10], sweep.convolved, sweep.likeliest, sweep.complements
     );
 }
 
@@ -107,6 +107,17 @@ fn write_streams(timings: &mut [Vec<Timing>]) {
     );
 }
 
+/// How fast data are decoded at rate 1/2, which is asked for in bits.
+fn write_likeliest(timings: &mut [Vec<Timing>]) {
+    let [short, middle, long] = [1, 16, 256].map(|octets| {
+        let taken = best(timings, &format!("likeliest, n {octets},"));
+        8.0 * octets as f64 / taken
+    });
+    println!(
+        "Decoding at rate 1/2: {long:.1} Mbit/s of data in calls of 256 octets, {middle:.1} in calls of 16, {short:.1} in calls of 1."
+    );
+}
+
 fn main() {
     let plain = Baseline::new(Form::Plain);
     let faster = Baseline::new(Form::Faster);
@@ -137,4 +148,5 @@ fn main() {
     timings.iter_mut().for_each(|sides| write_row(sides));
     write_portions(&mut timings);
     write_streams(&mut timings);
+    write_likeliest(&mut timings);
 }

@@ -67,6 +67,14 @@ extern "C" {
         symbols_len: usize,
         count: *mut u32,
     ) -> u64;
+    fn ironsimmer_likeliest(
+        reg: u32,
+        symbols: *const u8,
+        symbols_len: usize,
+        data: *mut u8,
+        data_len: usize,
+        found: *mut u32,
+    ) -> u64;
     fn ironsimmer_randomise(block: *mut u8, block_len: usize) -> u64;
 }
 
@@ -168,6 +176,18 @@ impl Calls for Ours {
     fn convolve_close(&self, rate: u32, state: &Coder, symbols: &mut [u8], count: &mut u32) -> u64 {
         let (out, out_len) = (symbols.as_mut_ptr(), symbols.len());
         unsafe { ironsimmer_convolve_close(rate, state.as_ptr(), out, out_len, count) }
+    }
+
+    fn likeliest(
+        &self,
+        register: u32,
+        symbols: &[u8],
+        data: &mut [u8],
+        found: &mut [u32; 2],
+    ) -> u64 {
+        let (read, read_len) = (symbols.as_ptr(), symbols.len());
+        let (out, out_len) = (data.as_mut_ptr(), data.len());
+        unsafe { ironsimmer_likeliest(register, read, read_len, out, out_len, found.as_mut_ptr()) }
     }
 
     fn randomise(&self, block: &mut [u8]) -> u64 {

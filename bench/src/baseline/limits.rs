@@ -63,6 +63,18 @@ pub fn convolve_close(rate: u32, state: Coder, symbols: usize) -> u64 {
     }
 }
 
+pub fn likeliest(register: u32, symbols: usize, data: usize) -> u64 {
+    if register > 63 {
+        7
+    } else if symbols % 2 == 1 || symbols > 512 {
+        5
+    } else if data != symbols / 2 {
+        6
+    } else {
+        0
+    }
+}
+
 pub fn randomise(block: usize) -> u64 {
     if block > 2040 {
         5

@@ -3,6 +3,7 @@
 mod convolution;
 mod eights;
 mod groups;
+mod likeliest;
 mod limits;
 mod marker;
 mod portions;
@@ -15,7 +16,7 @@ use groups::ByTables;
 use log_table::{Counts, Refusal};
 use randomiser::Sequence;
 
-/// Which form of decoder, search and convolutional coder answers; the other calls have one form, decoder and search have two.
+/// Which form of decoder, search, convolutional coder and its decoder answers; the other calls have one form, decoder and search have two.
 pub enum Form {
     Plain,
     Faster,
@@ -123,6 +124,20 @@ impl Calls for Baseline {
 
     fn convolve_close(&self, rate: u32, state: &Coder, symbols: &mut [u8], count: &mut u32) -> u64 {
         convolution::close(rate, *state, symbols, count)
+    }
+
+    fn likeliest(
+        &self,
+        register: u32,
+        symbols: &[u8],
+        data: &mut [u8],
+        found: &mut [u32; 2],
+    ) -> u64 {
+        match self.form {
+            Form::Plain => likeliest::by_bits(register, symbols, data, found),
+            Form::Faster => likeliest::by_words(register, symbols, data, found),
+            Form::Fastest => likeliest::by_ways(register, symbols, data, found),
+        }
     }
 
     fn randomise(&self, block: &mut [u8]) -> u64 {

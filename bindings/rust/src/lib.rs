@@ -4,6 +4,7 @@
 
 mod chain;
 mod convolution;
+mod likeliest;
 mod marker;
 mod portions;
 mod randomiser;
@@ -14,6 +15,7 @@ mod words;
 
 pub use chain::{Chain, Reception};
 pub use convolution::{convolve, symbols_len, CoderState, Convolver};
+pub use likeliest::{likeliest, Likeliest};
 pub use marker::{search, test_marker, Form, Search, MARKER};
 pub use portions::PortionEncoder;
 pub use randomiser::{randomise, Sequence};

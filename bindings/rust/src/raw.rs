@@ -1,4 +1,4 @@
-//! The twelve calls of `include/ironsimmer.h`, each behind a function that anyone may call. No other module has `unsafe` in it.
+//! The thirteen calls of `include/ironsimmer.h`, each behind a function that anyone may call. No other module has `unsafe` in it.
 //!
 //! The header asks two things of its caller. Each pointer is not null and points to as many octets or numbers as are said to be
 //! there: a reference is never null, not even an empty slice's, and a slice's own length goes with it. And what is lent to be
@@ -82,6 +82,15 @@ extern "C" {
         symbols: *mut u8,
         symbols_len: usize,
         count: *mut u32,
+    ) -> u64;
+
+    fn ironsimmer_likeliest(
+        reg: u32,
+        symbols: *const u8,
+        symbols_len: usize,
+        data: *mut u8,
+        data_len: usize,
+        found: *mut u32,
     ) -> u64;
 
     fn ironsimmer_transmit(
@@ -217,6 +226,21 @@ pub fn convolve_close(rate: u32, state: &[u8; 4], symbols: &mut [u8], count: &mu
     // SAFETY: the symbols go with their own length, state has the four octets that are read, and the symbols and the one number written,
     // each lent by `&mut`, overlap neither the state nor each other.
     unsafe { ironsimmer_convolve_close(rate, state.as_ptr(), symbols.as_mut_ptr(), symbols.len(), count) }
+}
+
+pub fn likeliest(register: u32, symbols: &[u8], data: &mut [u8], found: &mut [u32; 2]) -> u64 {
+    // SAFETY: both slices go with their own lengths, found has the two numbers that are written, and the data and found, each lent by
+    // `&mut`, overlap neither the symbols nor each other.
+    unsafe {
+        ironsimmer_likeliest(
+            register,
+            symbols.as_ptr(),
+            symbols.len(),
+            data.as_mut_ptr(),
+            data.len(),
+            found.as_mut_ptr(),
+        )
+    }
 }
 
 pub fn transmit(words: Words, randomised: bool, frame: &[u8], marked: &mut [u8]) -> u64 {

@@ -1,7 +1,7 @@
-//! The twelve calls, each made in both programs on the same input. All that they answer and leave behind is compared.
+//! The thirteen calls, each made in both programs on the same input. All that they answer and leave behind is compared.
 
 use ironsimmer::{
-    Chain, CoderState, Convolver, Form, PortionEncoder, Reception, Refusal, Report, Search, Sequence, Words,
+    Chain, CoderState, Convolver, Form, Likeliest, PortionEncoder, Reception, Refusal, Report, Search, Sequence, Words,
 };
 use second::blocks::{Code, Decoding};
 use second::convolution::Coder;
@@ -255,4 +255,17 @@ pub fn convolve_alone(rate: u32, data: &[u8], before: &[u8]) -> (Result<u32, Ref
         Err(number) => assert_eq!((numbers(&answer), &symbols[..]), ((number, 0), before), "rate {rate}"),
     }
     (answer, symbols)
+}
+
+/// The answer, and the data as they are afterwards.
+pub fn likeliest(register: u32, symbols: &[u8], before: &[u8]) -> (Result<Likeliest, Refusal>, Vec<u8>) {
+    let (answer, data) = lent(before, |data| ironsimmer::likeliest(register, symbols, data));
+    let case = format!("register {register}, symbols {symbols:02X?}");
+    match second::likeliest::likeliest(register, symbols, before.len()) {
+        Ok((places, register, expected)) => {
+            assert_eq!((answer, &data), (Ok(Likeliest { places, register }), &expected), "{case}")
+        }
+        Err(number) => assert_eq!((numbers(&answer), &data[..]), ((number, 0), before), "{case}"),
+    }
+    (answer, data)
 }

@@ -9,6 +9,7 @@ mod bursts;
 mod chain;
 mod convolution;
 mod draw;
+mod likeliest;
 mod limits;
 mod marker;
 mod portions;
