@@ -3,11 +3,13 @@ pub mod Octets
 pub mod Coding
 pub mod Optimal
 pub mod Spread
+pub mod Turned
 pub mod Listing
 pub mod Pairs
 pub mod Stepping
 pub mod Ways
 pub mod Backward
+pub mod Gathering
 pub mod Walking
 pub mod Outcomes
 pub mod Settled

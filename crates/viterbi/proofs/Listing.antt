@@ -7,41 +7,41 @@ use native.Mathlib.Omega.{arith}
 use lib.Dec.{T, eqb, eqb→eq, leb, leb→le}
 use lib.ListN.{getD}
 use Rattle.field.proofs.Below.{both, both-left, both-right, allBelow, at-below}
-use Rattle.viterbi.specs.Working.{pairBranch, Serves, Costs}
+use Rattle.viterbi.specs.Working.{turned, pairBranch, Serves, Costs}
 
 unfoldable pub serving : ℕ → ℕ → ℕ → Bool
-serving pair register cost =
-    both (leb cost 512)
-    (both (eqb cost (256 * pairBranch pair register 0))
-    (both (eqb (512 - cost) (256 * pairBranch pair register 1))
-    (both (eqb (512 - cost) (256 * pairBranch pair (register + 32) 0))
-    (eqb cost (256 * pairBranch pair (register + 32) 1)))))
+serving pair k cost =
+    both (leb cost 2)
+    (both (eqb cost (pairBranch pair (turned (2 * k)) 0))
+    (both (eqb (2 - cost) (pairBranch pair (turned (2 * k)) 1))
+    (both (eqb (2 - cost) (pairBranch pair (turned (2 * k + 1)) 0))
+    (eqb cost (pairBranch pair (turned (2 * k + 1)) 1)))))
 
-serves : (pair register cost : ℕ) → T (serving pair register cost) → Serves pair register cost
+serves : (pair k cost : ℕ) → T (serving pair k cost) → Serves pair k cost
 unfolding serving
-serves pair register cost t =
-    let zero-low = eqb cost (256 * pairBranch pair register 0) in
-    let one-low = eqb (512 - cost) (256 * pairBranch pair register 1) in
-    let zero-high = eqb (512 - cost) (256 * pairBranch pair (register + 32) 0) in
-    let one-high = eqb cost (256 * pairBranch pair (register + 32) 1) in
-    let high = both zero-high one-high in
-    let t1 = both-right (leb cost 512) (both zero-low (both one-low high)) t in
-    let t2 = both-right zero-low (both one-low high) t1 in
-    let t3 = both-right one-low high t2 in
+serves pair k cost t =
+    let zero-even = eqb cost (pairBranch pair (turned (2 * k)) 0) in
+    let one-even = eqb (2 - cost) (pairBranch pair (turned (2 * k)) 1) in
+    let zero-odd = eqb (2 - cost) (pairBranch pair (turned (2 * k + 1)) 0) in
+    let one-odd = eqb cost (pairBranch pair (turned (2 * k + 1)) 1) in
+    let odd = both zero-odd one-odd in
+    let t1 = both-right (leb cost 2) (both zero-even (both one-even odd)) t in
+    let t2 = both-right zero-even (both one-even odd) t1 in
+    let t3 = both-right one-even odd t2 in
     record {
-      most = leb→le cost 512 (both-left (leb cost 512) (both zero-low (both one-low high)) t);
-      zero-low = eqb→eq cost (256 * pairBranch pair register 0) (both-left zero-low (both one-low high) t1);
-      one-low = eqb→eq (512 - cost) (256 * pairBranch pair register 1) (both-left one-low high t2);
-      zero-high = eqb→eq (512 - cost) (256 * pairBranch pair (register + 32) 0) (both-left zero-high one-high t3);
-      one-high = eqb→eq cost (256 * pairBranch pair (register + 32) 1) (both-right zero-high one-high t3);
+      most = leb→le cost 2 (both-left (leb cost 2) (both zero-even (both one-even odd)) t);
+      zero-even = eqb→eq cost (pairBranch pair (turned (2 * k)) 0) (both-left zero-even (both one-even odd) t1);
+      one-even = eqb→eq (2 - cost) (pairBranch pair (turned (2 * k)) 1) (both-left one-even odd t2);
+      zero-odd = eqb→eq (2 - cost) (pairBranch pair (turned (2 * k + 1)) 0) (both-left zero-odd one-odd t3);
+      one-odd = eqb→eq cost (pairBranch pair (turned (2 * k + 1)) 1) (both-right zero-odd one-odd t3);
     }
 
-pub costs-listed : (list : List ℕ) → T (allBelow 128 (λ k. serving (k / 32) (k % 32) (getD list k 0))) → Costs list
+pub costs-listed : (list : List ℕ) → T (allBelow 128 (λ n. serving (n / 32) (n % 32) (getD list n 0))) → Costs list
 costs-listed list t = record { each = each }
   where
-    each : (pair register : ℕ) → pair < 4 → register < 32 → Serves pair register (getD list (32 * pair + register) 0)
-    each pair register p r =
-        let k = 32 * pair + register in
-        let front : k / 32 ≡ pair = omega arith in
-        let back : k % 32 ≡ register = omega arith in
-        rw (front, back) at (serves (k / 32) (k % 32) (getD list k 0) (at-below (λ k. serving (k / 32) (k % 32) (getD list k 0)) 128 t k (omega arith)))
+    each : (pair k : ℕ) → pair < 4 → k < 32 → Serves pair k (getD list (32 * pair + k) 0)
+    each pair k p h =
+        let n = 32 * pair + k in
+        let front : n / 32 ≡ pair = omega arith in
+        let back : n % 32 ≡ k = omega arith in
+        rw (front, back) at (serves (n / 32) (n % 32) (getD list n 0) (at-below (λ n. serving (n / 32) (n % 32) (getD list n 0)) 128 t n (omega arith)))

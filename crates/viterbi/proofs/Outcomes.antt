@@ -1,7 +1,7 @@
 -- What the two ways out of `likeliest` leave: refused as checked, or the path, which is the best input.
 use mathlib.Core.Path.{_≡_, refl, sym, ap, _∙_}
 use mathlib.Core.List.{List}
-use Prim.Native.Nat.{ℕ, _+_, _*_, _/_}
+use Prim.Native.Nat.{ℕ, _+_, _*_}
 use native.Mathlib.Omega.{arith}
 use lib.ListN.{length, getD}
 use Rattle.refusals.specs.Order.{FirstOf}
@@ -17,7 +17,7 @@ use Rattle.convolution.proofs.Bits.{bits-length}
 use Rattle.viterbi.specs.Likeliest.{places, Best}
 use Rattle.viterbi.specs.Outcome.{LikeliestOutcome}
 use Rattle.viterbi.specs.declared.Sought.the-variants.{Found, Refused}
-use Rattle.viterbi.specs.Working.{toGo, path, Words, Walked}
+use Rattle.viterbi.specs.Working.{turned, toGo, path, ToGo, Walked}
 use Rattle.viterbi.proofs.Octets.{bits-of}
 use Rattle.viterbi.proofs.Coding.{cost}
 use Rattle.viterbi.proofs.Optimal.{lower, path-cost, path-first}
@@ -51,12 +51,13 @@ module _ (register : ℕ) (received input : List ℕ) (double : length received 
         first = λ other e same. rw walked (path-first (bitsOf received) (bitsOf other) register (bits-of other) (omega (arith, bits-length received, bits-length other)) (same ∙ path-places));
       }
 
-pub path-found : (register : ℕ) (received before after words : List ℕ) (base end : ℕ) →
+pub path-found : (register : ℕ) (received before after costs : List ℕ) (base place end : ℕ) →
     FirstOf (likeliestOrder register (length received) (length before)) 0 →
-    Words (bitsOf received) 0 0 base words →
+    ToGo (bitsOf received) 0 base costs →
+    place ≡ turned register →
     Walked (bitsOf received) register before after end →
-    LikeliestOutcome register received before (Found (base + getD words register 0 / 256) end) after
-path-found register received before after words base end f c w =
+    LikeliestOutcome register received before (Found (base + getD costs place 0) end) after
+path-found register received before after costs base place end f c e w =
     let legal = accepted-likeliest register (length received) (length before) f in
     let double : length received ≡ 2 * length after = omega (arith, legal .even, legal .half, w .long) in
     record {
@@ -65,6 +66,6 @@ path-found register received before after words base end f c w =
       octets = λ z. w .octets;
       long = λ z. w .long;
       best = λ z. path-best register received after double (w .bits);
-      differing = λ z. c .cost register (legal .register) ∙ sym (path-places register received after double (w .bits));
+      differing = λ z. ap (λ (p : ℕ). base + getD costs p 0) e ∙ c .at register (legal .register) ∙ sym (path-places register received after double (w .bits));
       reached = λ z. w .reached;
     }

@@ -1,6 +1,6 @@
--- One bit back for two registers at a time, and the words lowered one after the other.
-use mathlib.Core.Path.{_≡_, refl, sym, ap, _∙_}
-use mathlib.Core.Bool.{Bool, true, false}
+-- One bit back, two registers at a time: what each gets, and what bounds it.
+use mathlib.Core.Path.{_≡_, refl, sym, ap, ap₂, _∙_}
+use mathlib.Core.Bool.{Bool, true, false, cond}
 use mathlib.Core.List.{List}
 use Prim.Native.Nat.{ℕ, _+_, _-_, _*_, _/_, _%_, _≤_, _<_, min}
 use native.Mathlib.Nat.{mod-lt}
@@ -10,115 +10,117 @@ use lib.Dec.{ltb}
 use lib.ListN.{length, getD, set, length-set}
 use lib.Seq.{getD-set-same, getD-set-other}
 use Rattle.convolution.specs.Coder.{nextRegister}
-use Rattle.viterbi.specs.Working.{Serves, earlier, Earlier, Below}
+use Rattle.viterbi.specs.declared.Column.{Column}
+use Rattle.viterbi.specs.Working.{turned, ofRegister, Serves, by, Earlier, Below, Under}
 use Rattle.viterbi.proofs.Coding.{branch-most}
-
-next-low : (i bit : ℕ) → i < 32 → bit < 2 → nextRegister i bit ≡ 2 * i + bit
-next-low i bit h l = omega arith
-
-next-high : (i bit : ℕ) → i < 32 → bit < 2 → nextRegister (i + 32) bit ≡ 2 * i + bit
-next-high i bit h l = omega arith
+use Rattle.viterbi.proofs.Turned.{turned-small, turned-back, even-zero, even-one, odd-zero, odd-one}
 
 pub next-small : (r bit : ℕ) → nextRegister r bit < 64
 next-small r bit = mod-lt (r * 2 + bit) (omega arith)
 
--- The registers below i and those 32 above them have what f says.
-pub record Half (f : ℕ → ℕ) (i : ℕ) (list : List ℕ) : Type 0 where
+-- ---- a list that is filled from the front
+
+-- The places below n have what f says.
+pub record Filled (f : ℕ → ℕ) (n : ℕ) (list : List ℕ) : Type 0 where
   pub long : length list ≡ 64
-  pub low : (k : ℕ) → k < i → getD list k 0 ≡ f k
-  pub high : (k : ℕ) → k < i → getD list (k + 32) 0 ≡ f (k + 32)
+  pub at : (place : ℕ) → place < n → getD list place 0 ≡ f place
 
-pub half-none : (f : ℕ → ℕ) (list : List ℕ) → length list ≡ 64 → Half f 0 list
-half-none f list l = record { long = l; low = λ k h. absurd (omega arith); high = λ k h. absurd (omega arith) }
+pub filled-none : (f : ℕ → ℕ) (list : List ℕ) → length list ≡ 64 → Filled f 0 list
+filled-none f list l = record { long = l; at = λ place h. absurd (omega arith) }
 
-pub half-more : (f : ℕ → ℕ) (i : ℕ) (list : List ℕ) (v w : ℕ) → i < 32 → v ≡ f i → w ≡ f (i + 32) → Half f i list → Half f (i + 1) (set (set list i v) (i + 32) w)
-half-more f i list v w h ev ew d =
+pub filled-more : (f : ℕ → ℕ) (n : ℕ) (list : List ℕ) (v : ℕ) → n < 64 → v ≡ f n → Filled f n list → Filled f (n + 1) (set list n v)
+filled-more f n list v h e d = record { long = simp length-set (d .long); at = λ place l. at place l (ltb place n) refl }
+  where
+    at : (place : ℕ) → place < n + 1 → (t : Bool) → ltb place n ≡ t → getD (set list n v) place 0 ≡ f place
+    at place l true u = getD-set-other list n place v 0 (omega (arith, ltb-true place n u)) ∙ d .at place (ltb-true place n u)
+    at place l false u =
+        let same : n ≡ place = omega (arith, ltb-false place n u) in
+        rw (← same) (getD-set-same list n v 0 (omega (arith, d .long)) ∙ e)
+
+pub filled-two : (f : ℕ → ℕ) (k : ℕ) (list : List ℕ) (v w : ℕ) → k < 32 → v ≡ f (2 * k) → w ≡ f (2 * k + 1) → Filled f (2 * k) list →
+    Filled f (2 * (k + 1)) (set (set list (2 * k) v) (2 * k + 1) w)
+filled-two f k list v w h ev ew d =
+    let two : 2 * k + 1 + 1 ≡ 2 * (k + 1) = omega arith in
+    rw two at (filled-more f (2 * k + 1) (set list (2 * k) v) w (omega arith) ew (filled-more f (2 * k) list v (omega arith) ev d))
+
+-- ---- what the register at a place gets
+
+pub costAt : List ℕ → ℕ → ℕ → ℕ
+costAt costs pair place = min (by costs pair (turned place) 0) (by costs pair (turned place) 1)
+
+pub wayAt : Column → ℕ → ℕ → ℕ → ℕ
+wayAt column pair weight place =
+    cond (ltb (by (column .costs) pair (turned place) 1) (by (column .costs) pair (turned place) 0))
+    (ofRegister (column .ways) (nextRegister (turned place) 1) + weight)
+    (ofRegister (column .ways) (nextRegister (turned place) 0))
+
+-- Two equal tests choose alike.
+chosen : (a b c d u v x y : ℕ) → a ≡ c → b ≡ d → u ≡ x → v ≡ y → cond (ltb a b) u v ≡ cond (ltb c d) x y
+chosen a b c d u v x y p q r s = ap₂ (λ (m n : ℕ). cond (ltb m n) u v) p q ∙ ap₂ (λ (m n : ℕ). cond (ltb c d) m n) r s
+
+-- In the code's words.
+module _ (column : Column) (pair weight k x : ℕ) (h : k < 32) (serves : Serves pair k x) where
+  moved : (list : List ℕ) (place at : ℕ) → place ≡ at → getD list at 0 ≡ getD list place 0
+  moved list place at e = ap (λ (n : ℕ). getD list n 0) (sym e)
+
+  zero-even : x + getD (column .costs) k 0 ≡ by (column .costs) pair (turned (2 * k)) 0
+  zero-even = ap₂ _+_ (serves .zero-even) (moved (column .costs) _ k (even-zero k h))
+
+  one-even : 2 - x + getD (column .costs) (k + 32) 0 ≡ by (column .costs) pair (turned (2 * k)) 1
+  one-even = ap₂ _+_ (serves .one-even) (moved (column .costs) _ (k + 32) (even-one k h))
+
+  zero-odd : 2 - x + getD (column .costs) k 0 ≡ by (column .costs) pair (turned (2 * k + 1)) 0
+  zero-odd = ap₂ _+_ (serves .zero-odd) (moved (column .costs) _ k (odd-zero k h))
+
+  one-odd : x + getD (column .costs) (k + 32) 0 ≡ by (column .costs) pair (turned (2 * k + 1)) 1
+  one-odd = ap₂ _+_ (serves .one-odd) (moved (column .costs) _ (k + 32) (odd-one k h))
+
+  pub even-cost : min (x + getD (column .costs) k 0) (2 - x + getD (column .costs) (k + 32) 0) ≡ costAt (column .costs) pair (2 * k)
+  unfolding costAt
+  even-cost = ap₂ min zero-even one-even
+
+  pub odd-cost : min (2 - x + getD (column .costs) k 0) (x + getD (column .costs) (k + 32) 0) ≡ costAt (column .costs) pair (2 * k + 1)
+  unfolding costAt
+  odd-cost = ap₂ min zero-odd one-odd
+
+  pub even-way : cond (ltb (2 - x + getD (column .costs) (k + 32) 0) (x + getD (column .costs) k 0)) (getD (column .ways) (k + 32) 0 + weight) (getD (column .ways) k 0) ≡ wayAt column pair weight (2 * k)
+  unfolding wayAt
+  even-way = chosen _ _ _ _ _ _ _ _ one-even zero-even (ap (λ (n : ℕ). n + weight) (moved (column .ways) _ (k + 32) (even-one k h))) (moved (column .ways) _ k (even-zero k h))
+
+  pub odd-way : cond (ltb (x + getD (column .costs) (k + 32) 0) (2 - x + getD (column .costs) k 0)) (getD (column .ways) (k + 32) 0 + weight) (getD (column .ways) k 0) ≡ wayAt column pair weight (2 * k + 1)
+  unfolding wayAt
+  odd-way = chosen _ _ _ _ _ _ _ _ one-odd zero-odd (ap (λ (n : ℕ). n + weight) (moved (column .ways) _ (k + 32) (odd-one k h))) (moved (column .ways) _ k (odd-zero k h))
+
+-- All places filled.
+pub all-earlier : (column after : Column) (pair weight k : ℕ) → k ≡ 32 → Filled (costAt (column .costs) pair) (2 * k) (after .costs) → Filled (wayAt column pair weight) (2 * k) (after .ways) →
+    Earlier column pair weight after
+unfolding costAt wayAt
+all-earlier column after pair weight k e costs ways =
     record {
-      long = simp length-set (d .long);
-      low = λ k l. low k l (ltb k i) refl;
-      high = λ k l. high k l (ltb k i) refl;
+      cost = λ r h. costs .at (turned r) (omega (arith, turned-small r)) ∙ ap (λ (q : ℕ). min (by (column .costs) pair q 0) (by (column .costs) pair q 1)) (turned-back r h);
+      way = λ r h. ways .at (turned r) (omega (arith, turned-small r)) ∙ ap (λ (q : ℕ). cond (ltb (by (column .costs) pair q 1) (by (column .costs) pair q 0)) (ofRegister (column .ways) (nextRegister q 1) + weight) (ofRegister (column .ways) (nextRegister q 0))) (turned-back r h);
     }
-  where
-    low : (k : ℕ) → k < i + 1 → (t : Bool) → ltb k i ≡ t → getD (set (set list i v) (i + 32) w) k 0 ≡ f k
-    low k l true u =
-        getD-set-other (set list i v) (i + 32) k w 0 (omega (arith, ltb-true k i u))
-        ∙ getD-set-other list i k v 0 (omega (arith, ltb-true k i u))
-        ∙ d .low k (ltb-true k i u)
-    low k l false u =
-        let same : i ≡ k = omega (arith, ltb-false k i u) in
-        rw (← same)
-        (getD-set-other (set list i v) (i + 32) i w 0 (omega arith) ∙ getD-set-same list i v 0 (omega (arith, d .long)) ∙ ev)
 
-    high : (k : ℕ) → k < i + 1 → (t : Bool) → ltb k i ≡ t → getD (set (set list i v) (i + 32) w) (k + 32) 0 ≡ f (k + 32)
-    high k l true u =
-        getD-set-other (set list i v) (i + 32) (k + 32) w 0 (omega (arith, ltb-true k i u))
-        ∙ getD-set-other list i (k + 32) v 0 (omega (arith, ltb-true k i u))
-        ∙ d .high k (ltb-true k i u)
-    high k l false u =
-        let same : i ≡ k = omega (arith, ltb-false k i u) in
-        rw (← same)
-        (getD-set-same (set list i v) (i + 32) w 0 (simp length-set (omega (arith, d .long))) ∙ ew)
+-- ---- bounds
 
-pub half-whole : (f : ℕ → ℕ) (i : ℕ) (list : List ℕ) → i ≡ 32 → Half f i list → (r : ℕ) → r < 64 → getD list r 0 ≡ f r
-half-whole f i list e d r h = at (ltb r 32) refl
-  where
-    at : (t : Bool) → ltb r 32 ≡ t → getD list r 0 ≡ f r
-    at true u = d .low r (omega (arith, ltb-true r 32 u))
-    at false u =
-        let back : r - 32 + 32 ≡ r = omega (arith, ltb-false r 32 u) in
-        rw back at (d .high (r - 32) (omega (arith, ltb-false r 32 u)))
+module _ (column after : Column) (pair weight : ℕ) (d : Earlier column pair weight after) where
+  pub below-back : (m n : ℕ) → m + 2 ≤ n → Below m (column .costs) → Below n (after .costs)
+  below-back m n h b = record { at = λ place l. rw (turned-back place l) at (at place) }
+    where
+      at : (place : ℕ) → getD (after .costs) (turned (turned place)) 0 ≤ n
+      at place =
+          let r = turned place in
+          omega (arith, d .cost r (turned-small place), b .at (turned (nextRegister r 0)) (turned-small (nextRegister r 0)), branch-most r 0 (pair / 2) (pair % 2))
 
--- What both registers get, in the code's words.
-module _ (words : List ℕ) (pair weight i x : ℕ) (h : i < 32) (serves : Serves pair i x) where
-  at-even : (place : ℕ) → place ≡ 2 * i + 0 → getD words (2 * i) 0 ≡ getD words place 0
-  at-even place e = ap (λ (k : ℕ). getD words k 0) (omega arith)
+  pub under-back : (n : ℕ) → weight + weight ≡ n → Under weight (column .ways) → Under n (after .ways)
+  under-back n e u = record { at = λ place l. rw (turned-back place l) at (at place) }
+    where
+      either : (test : Bool) (a b m : ℕ) → a < weight → b < weight → m ≡ cond test (a + weight) b → m < n
+      either true a b m p q s = omega arith
+      either false a b m p q s = omega arith
 
-  at-odd : (place : ℕ) → place ≡ 2 * i + 1 → getD words (2 * i + 1) 0 ≡ getD words place 0
-  at-odd place e = ap (λ (k : ℕ). getD words k 0) (sym e)
-
-  pub low-value : min (x + getD words (2 * i) 0) (512 - x + (getD words (2 * i + 1) 0 + weight)) ≡ earlier words pair weight i
-  low-value =
-      omega (
-        arith,
-        serves .most,
-        serves .zero-low,
-        serves .one-low,
-        at-even (nextRegister i 0) (next-low i 0 h (omega arith)),
-        at-odd (nextRegister i 1) (next-low i 1 h (omega arith)),
-      )
-
-  pub high-value : min (512 - x + getD words (2 * i) 0) (x + (getD words (2 * i + 1) 0 + weight)) ≡ earlier words pair weight (i + 32)
-  high-value =
-      omega (
-        arith,
-        serves .most,
-        serves .zero-high,
-        serves .one-high,
-        at-even (nextRegister (i + 32) 0) (next-high i 0 h (omega arith)),
-        at-odd (nextRegister (i + 32) 1) (next-high i 1 h (omega arith)),
-      )
-
-pub below-back : (m n pair weight : ℕ) (words after : List ℕ) → m + 512 ≤ n → Below m words → Earlier words pair weight after → Below n after
-below-back m n pair weight words after h b d =
-    record { at = λ r l. omega (arith, d .at r l, b .at (nextRegister r 0) (next-small r 0), branch-most r 0 (pair / 2) (pair % 2)) }
-
-pub below-more : (m n : ℕ) (words : List ℕ) → m ≤ n → Below m words → Below n words
-below-more m n words h b = record { at = λ r l. omega (arith, b .at r l) }
-
--- The first i registers are lowered.
-pub record LoweredTo (taken : ℕ) (words : List ℕ) (i : ℕ) (list : List ℕ) : Type 0 where
-  pub long : length list ≡ 64
-  pub at : (k : ℕ) → k < i → getD list k 0 + taken ≡ getD words k 0 / 256 * 256
-
-pub lowered-none : (taken : ℕ) (words list : List ℕ) → length list ≡ 64 → LoweredTo taken words 0 list
-lowered-none taken words list l = record { long = l; at = λ k h. absurd (omega arith) }
-
-pub lowered-more : (taken : ℕ) (words : List ℕ) (i : ℕ) (list : List ℕ) (v : ℕ) → i < 64 → v + taken ≡ getD words i 0 / 256 * 256 →
-    LoweredTo taken words i list → LoweredTo taken words (i + 1) (set list i v)
-lowered-more taken words i list v h l e = record { long = simp length-set (e .long); at = λ k u. at k u (ltb k i) refl }
-  where
-    at : (k : ℕ) → k < i + 1 → (t : Bool) → ltb k i ≡ t → getD (set list i v) k 0 + taken ≡ getD words k 0 / 256 * 256
-    at k u true b = rw (getD-set-other list i k v 0 (omega (arith, ltb-true k i b))) (e .at k (ltb-true k i b))
-    at k u false b =
-        let same : i ≡ k = omega (arith, ltb-false k i b) in
-        rw (← same) (rw (getD-set-same list i v 0 (omega (arith, e .long))) l)
+      at : (place : ℕ) → getD (after .ways) (turned (turned place)) 0 < n
+      at place =
+          let r = turned place in
+          either (ltb (by (column .costs) pair r 1) (by (column .costs) pair r 0)) (ofRegister (column .ways) (nextRegister r 1)) (ofRegister (column .ways) (nextRegister r 0)) (ofRegister (after .ways) r)
+          (u .at (turned (nextRegister r 1)) (turned-small (nextRegister r 1))) (u .at (turned (nextRegister r 0)) (turned-small (nextRegister r 0))) (d .way r (turned-small place))

@@ -5,14 +5,14 @@ use Prim.Native.Nat.{ℕ, _+_, _*_, _/_, _%_, _<_}
 use native.Mathlib.Nat.{mod-lt}
 use native.Mathlib.Omega.{arith}
 use native.Mathlib.Numerals.{add-one}
-use lib.ListN.{length, set, take, drop, drop-of-length-le}
+use lib.ListN.{length, getD, set, take, drop, drop-of-length-le}
 use lib.Seq.{take-suc-set, take-all}
 use Rattle.codewords.specs.Words.{Octets}
 use Rattle.convolution.specs.Coder.{lowBits, bitsOf, registerAfter}
 use Rattle.convolution.proofs.Bits.{low-mod, bits-append, bits-length}
 use Rattle.convolution.proofs.AtOnce.{register-at}
 use Rattle.convolution.proofs.Symbols.{register-append}
-use Rattle.viterbi.specs.Working.{path, Ahead, Walked}
+use Rattle.viterbi.specs.Working.{turned, ofRegister, path, Ahead, Walked}
 use Rattle.viterbi.proofs.Octets.{octets-more}
 
 -- The register behind an octet is its last six bits.
@@ -62,6 +62,10 @@ halfway-more received start list i at v h d g =
 
     bits : bitsOf (take (i + 1) (set list i v)) ≡ bitsOf (take i list) ++ lowBits 8 v
     bits = rw taken (bits-append (take i list) (v ∷ []) ∙ ap (λ (l : List ℕ). bitsOf (take i list) ++ l) (append-nil (lowBits 8 v)))
+
+-- A row read at the register's place.
+pub ahead-at : (received row : List ℕ) (t register place : ℕ) → place ≡ turned register → Ahead received t 8 register (ofRegister row register) → Ahead received t 8 register (getD row place 0)
+ahead-at received row t register place e a = rw e a
 
 pub whole-way : (s : List ℕ) (start : ℕ) (before after : List ℕ) (i at : ℕ) → i ≡ length after → length after ≡ length before → 2 * length after ≡ length s →
     Halfway (bitsOf s) start after i at → Walked (bitsOf s) start before after at

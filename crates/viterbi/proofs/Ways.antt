@@ -1,24 +1,21 @@
--- One bit back over words: the smaller word is the cheaper way, and of two equally cheap ones that with the bit 0.
+-- One bit back over a column: the costs to go one bit earlier, and the ways by one bit longer.
 use mathlib.Core.Path.{_≡_, refl, sym, ap, ap₂, _∙_}
 use mathlib.Core.Bool.{Bool, true, false, cond}
 use mathlib.Core.List.{List, _∷_, _++_}
-use Prim.Native.Nat.{ℕ, zero, suc, _+_, _*_, _/_, _%_, _^_, _≤_, _<_, min}
+use Prim.Native.Nat.{ℕ, zero, suc, _+_, _*_, _/_, _%_, _^_, _<_, min}
 use native.Mathlib.Nat.{le-refl, pow-suc}
 use native.Mathlib.Omega.{arith}
 use native.Mathlib.Numerals.{add-one}
 use borrow.Author.Tests.{ltb-true, ltb-false, lt-ltb, le-ltb}
 use lib.Arith.{digits-div, digits-mod}
 use lib.Dec.{ltb}
-use lib.Pow.{pow-mono}
-use lib.ListN.{getD, drop}
+use lib.ListN.{drop}
 use Rattle.convolution.specs.Coder.{lowBits, nextRegister, registerAfter}
 use Rattle.convolution.proofs.Bits.{low-first, low-mod}
-use Rattle.viterbi.specs.Working.{toGo, via, choice, path, pairBranch, Pair, Earlier, Ahead, Words}
+use Rattle.viterbi.specs.declared.Column.{Column}
+use Rattle.viterbi.specs.Working.{ofRegister, toGo, via, choice, path, pairBranch, Pair, Earlier, Ahead, Stands}
 use Rattle.viterbi.proofs.Coding.{chosen-bit}
 use Rattle.viterbi.proofs.Stepping.{next-small}
-
-pub power-most : (k : ℕ) → k < 8 → 2 ^ k ≤ 128
-power-most k h = pow-mono {i = k} {j = 7} (omega arith)
 
 -- A bit in front of k others.
 front-bit : (k v d : ℕ) → v < 2 ^ k → d < 2 → lowBits (suc k) (d * 2 ^ k + v) ≡ d ∷ lowBits k v
@@ -94,48 +91,19 @@ module _ (received : List ℕ) (t k pair base : ℕ) (cost way : ℕ → ℕ) (q
   cost-more : (r : ℕ) → base + min (pairBranch pair r 0 + cost (nextRegister r 0)) (pairBranch pair r 1 + cost (nextRegister r 1)) ≡ toGo (drop (2 * t) received) r
   cost-more r = rw (q .split) (omega (arith, c (nextRegister r 0) (next-small r 0), c (nextRegister r 1) (next-small r 1)))
 
--- The cost and the way of the smaller word.
-word-cost : (a b u v w m : ℕ) → m ≡ min (256 * a + u) (256 * b + (v + w)) → u % 256 < w → v % 256 < w → w ≤ 128 → m / 256 ≡ min (a + u / 256) (b + v / 256)
-word-cost a b u v w m e h l s = go (ltb (b + v / 256) (a + u / 256)) refl
-  where
-    go : (t : Bool) → ltb (b + v / 256) (a + u / 256) ≡ t → m / 256 ≡ min (a + u / 256) (b + v / 256)
-    go true d = omega (arith, ltb-true (b + v / 256) (a + u / 256) d)
-    go false d = omega (arith, ltb-false (b + v / 256) (a + u / 256) d)
+pub stands-at : (received : List ℕ) (t u k base : ℕ) (column : Column) → t ≡ u → Stands received t k base column → Stands received u k base column
+stands-at received t u k base column e b = rw e at b
 
-word-way : (a b u v w m : ℕ) → m ≡ min (256 * a + u) (256 * b + (v + w)) → u % 256 < w → v % 256 < w → w ≤ 128 →
-    m % 256 ≡ cond (ltb (b + v / 256) (a + u / 256)) (v % 256 + w) (u % 256)
-word-way a b u v w m e h l s = go (ltb (b + v / 256) (a + u / 256)) refl
-  where
-    go : (t : Bool) → ltb (b + v / 256) (a + u / 256) ≡ t → m % 256 ≡ cond t (v % 256 + w) (u % 256)
-    go true d = omega (arith, ltb-true (b + v / 256) (a + u / 256) d)
-    go false d = omega (arith, ltb-false (b + v / 256) (a + u / 256) d)
-
-pub words-at : (received : List ℕ) (t u k base : ℕ) (words : List ℕ) → t ≡ u → Words received t k base words → Words received u k base words
-words-at received t u k base words e b = rw e at b
-
--- So the words one bit earlier have their ways by one bit longer.
-pub words-back : (received : List ℕ) (t k pair base weight : ℕ) (words after : List ℕ) → weight ≡ 2 ^ k → k < 8 → Pair received t pair →
-    Words received (t + 1) k base words → Earlier words pair weight after → Words received t (k + 1) base after
-words-back received t k pair base weight words after e h q b d =
+pub stands-back : (received : List ℕ) (t k pair base weight : ℕ) (column after : Column) → weight ≡ 2 ^ k → Pair received t pair → Stands received (t + 1) k base column →
+    Earlier column pair weight after → Stands received t (k + 1) base after
+stands-back received t k pair base weight column after e q b d =
     record {
-      cost = λ r l. ap (λ (m : ℕ). base + m) (word-cost (pairBranch pair r 0) (pairBranch pair r 1) (getD words (nextRegister r 0) 0) (getD words (nextRegister r 1) 0) weight (getD after r 0) (d .at r l) (small r 0) (small r 1) light) ∙ cost-more received t k pair base costs ways q c (b .ahead) r;
-      ahead = λ r l. rw (add-one, word-way (pairBranch pair r 0) (pairBranch pair r 1) (getD words (nextRegister r 0) 0) (getD words (nextRegister r 1) 0) weight (getD after r 0) (d .at r l) (small r 0) (small r 1) light, e) (ahead-more received t k pair base costs ways q c (b .ahead) r);
+      cost = record { at = λ r l. ap (λ (m : ℕ). base + m) (d .cost r l) ∙ cost-more received t k pair base (ofRegister (column .costs)) (ofRegister (column .ways)) q c (b .ahead) r };
+      ahead = λ r l. rw (add-one, d .way r l, e) (ahead-more received t k pair base (ofRegister (column .costs)) (ofRegister (column .ways)) q c (b .ahead) r);
     }
   where
-    costs : ℕ → ℕ
-    costs r = getD words r 0 / 256
-
-    ways : ℕ → ℕ
-    ways r = getD words r 0 % 256
-
     two : 2 * (t + 1) ≡ 2 * t + 2
     two = omega arith
 
-    c : (r : ℕ) → r < 64 → base + costs r ≡ toGo (drop (2 * t + 2) received) r
-    c r l = rw two at (b .cost r l)
-
-    light : weight ≤ 128
-    light = omega (arith, power-most k h)
-
-    small : (r bit : ℕ) → getD words (nextRegister r bit) 0 % 256 < weight
-    small r bit = omega (arith, b .ahead (nextRegister r bit) (next-small r bit) .small)
+    c : (r : ℕ) → r < 64 → base + ofRegister (column .costs) r ≡ toGo (drop (2 * t + 2) received) r
+    c r l = rw two at (b .cost .at r l)

@@ -6,6 +6,7 @@ use Prim.Native.Nat.{ℕ, _+_, _-_, _*_, _/_, _%_, _^_, _≤_, _<_, min}
 use lib.Dec.{ltb}
 use lib.ListN.{length, getD, drop}
 use Rattle.codewords.specs.Words.{Octets, differing}
+use Rattle.viterbi.specs.declared.Column.{Column}
 use Rattle.convolution.specs.Coder.{lowBits, bitsOf, symbolsAt, nextRegister, registerAfter}
 
 -- In how many places the symbols of one bit differ from two received ones.
@@ -40,38 +41,52 @@ pub record Pair (received : List ℕ) (t pair : ℕ) : Type 0 where
 abbrev pub pairBranch : ℕ → ℕ → ℕ → ℕ
 pairBranch pair register bit = branch register bit (pair / 2) (pair % 2)
 
--- A listed cost, times 256, serves four branches, since both vectors have the present and the oldest bit.
-pub record Serves (pair register cost : ℕ) : Type 0 where
-  pub most : cost ≤ 512
-  pub zero-low : cost ≡ 256 * pairBranch pair register 0
-  pub one-low : 512 - cost ≡ 256 * pairBranch pair register 1
-  pub zero-high : 512 - cost ≡ 256 * pairBranch pair (register + 32) 0
-  pub one-high : cost ≡ 256 * pairBranch pair (register + 32) 1
+-- A register turned round has its six bits in the other order, the newest highest. That is its place in a column.
+abbrev pub turned : ℕ → ℕ
+turned register =
+    register % 2 * 32 + register / 2 % 2 * 16 + register / 4 % 2 * 8 + register / 8 % 2 * 4 + register / 16 % 2 * 2 + register / 32 % 2
 
--- So the list has it for each pair and each register below 32.
+abbrev pub ofRegister : List ℕ → ℕ → ℕ
+ofRegister list register = getD list (turned register) 0
+
+-- A listed cost serves four branches, those of two registers side by side, since both vectors have the present and the oldest bit.
+pub record Serves (pair k cost : ℕ) : Type 0 where
+  pub most : cost ≤ 2
+  pub zero-even : cost ≡ pairBranch pair (turned (2 * k)) 0
+  pub one-even : 2 - cost ≡ pairBranch pair (turned (2 * k)) 1
+  pub zero-odd : 2 - cost ≡ pairBranch pair (turned (2 * k + 1)) 0
+  pub one-odd : cost ≡ pairBranch pair (turned (2 * k + 1)) 1
+
+-- So the list has it for each pair and each two registers.
 pub record Costs (list : List ℕ) : Type 0 where
-  pub each : (pair register : ℕ) → pair < 4 → register < 32 → Serves pair register (getD list (32 * pair + register) 0)
+  pub each : (pair k : ℕ) → pair < 4 → k < 32 → Serves pair k (getD list (32 * pair + k) 0)
 
--- A word is a cost to go above a base, times 256, and in its low eight bits the way that has it. One bit earlier, where the bit 1 has the given
--- weight, the words of all registers are:
-abbrev pub earlier : List ℕ → ℕ → ℕ → ℕ → ℕ
-earlier words pair weight register =
-    min
-    (256 * pairBranch pair register 0 + getD words (nextRegister register 0) 0)
-    (256 * pairBranch pair register 1 + (getD words (nextRegister register 1) 0 + weight))
+-- The cost to go one bit earlier by way of a bit, from the costs behind it.
+abbrev pub by : List ℕ → ℕ → ℕ → ℕ → ℕ
+by costs pair register bit = pairBranch pair register bit + ofRegister costs (nextRegister register bit)
 
-pub record Earlier (words : List ℕ) (pair weight : ℕ) (after : List ℕ) : Type 0 where
-  pub at : (register : ℕ) → register < 64 → getD after register 0 ≡ earlier words pair weight register
+-- One bit earlier each register has the cheaper cost, and its way; the bit 1 has the given weight in the way.
+pub record Earlier (column : Column) (pair weight : ℕ) (after : Column) : Type 0 where
+  pub cost : (register : ℕ) → register < 64 → ofRegister (after .costs) register ≡ min (by (column .costs) pair register 0) (by (column .costs) pair register 1)
+  pub way : (register : ℕ) → register < 64 →
+      ofRegister (after .ways) register
+      ≡ cond (ltb (by (column .costs) pair register 1) (by (column .costs) pair register 0))
+      (ofRegister (column .ways) (nextRegister register 1) + weight)
+      (ofRegister (column .ways) (nextRegister register 0))
 
-pub record Below (most : ℕ) (words : List ℕ) : Type 0 where
-  pub at : (register : ℕ) → register < 64 → getD words register 0 ≤ most
+-- Bounds of all 64 numbers.
+pub record Below (most : ℕ) (list : List ℕ) : Type 0 where
+  pub at : (place : ℕ) → place < 64 → getD list place 0 ≤ most
 
--- The ways are cleared, and the same cost is taken from each word.
-pub record Above (taken : ℕ) (words : List ℕ) : Type 0 where
-  pub at : (register : ℕ) → register < 64 → taken ≤ getD words register 0 / 256 * 256
+pub record Under (limit : ℕ) (list : List ℕ) : Type 0 where
+  pub at : (place : ℕ) → place < 64 → getD list place 0 < limit
 
-pub record Lowered (taken : ℕ) (words after : List ℕ) : Type 0 where
-  pub at : (register : ℕ) → register < 64 → getD after register 0 + taken ≡ getD words register 0 / 256 * 256
+pub record Above (taken : ℕ) (list : List ℕ) : Type 0 where
+  pub at : (place : ℕ) → place < 64 → taken ≤ getD list place 0
+
+-- The same is taken from each.
+pub record Lowered (taken : ℕ) (list after : List ℕ) : Type 0 where
+  pub at : (place : ℕ) → place < 64 → getD after place 0 + taken ≡ getD list place 0
 
 -- The next k bits of the path from bit t and a register on.
 pub record Ahead (received : List ℕ) (t k register way : ℕ) : Type 0 where
@@ -80,18 +95,21 @@ pub record Ahead (received : List ℕ) (t k register way : ℕ) : Type 0 where
       path (drop (2 * t) received) register
       ≡ lowBits k way ++ path (drop (2 * (t + k)) received) (registerAfter register (lowBits k way))
 
--- The words at bit t, with the next k bits of each way.
-pub record Words (received : List ℕ) (t k base : ℕ) (words : List ℕ) : Type 0 where
-  pub cost : (register : ℕ) → register < 64 → base + getD words register 0 / 256 ≡ toGo (drop (2 * t) received) register
-  pub ahead : (register : ℕ) → register < 64 → Ahead received t k register (getD words register 0 % 256)
+-- The costs to go at bit t, above a base; and with them the next k bits of each way.
+pub record ToGo (received : List ℕ) (t base : ℕ) (costs : List ℕ) : Type 0 where
+  pub at : (register : ℕ) → register < 64 → base + ofRegister costs register ≡ toGo (drop (2 * t) received) register
 
--- From the words behind octet i to those in front of it, whatever their base.
-pub record OctetBack (received : List ℕ) (i : ℕ) (words after : List ℕ) : Type 0 where
-  pub at : (base : ℕ) → Words received (8 * i + 8) 0 base words → Words received (8 * i) 8 base after
+pub record Stands (received : List ℕ) (t k base : ℕ) (column : Column) : Type 0 where
+  pub cost : ToGo received t base (column .costs)
+  pub ahead : (register : ℕ) → register < 64 → Ahead received t k register (ofRegister (column .ways) register)
+
+-- From the costs behind octet i to the column in front of it, whatever the base.
+pub record OctetBack (received : List ℕ) (i : ℕ) (behind : List ℕ) (after : Column) : Type 0 where
+  pub at : (base : ℕ) → ToGo received (8 * i + 8) base behind → Stands received (8 * i) 8 base after
 
 -- The rows from octet i up to n have the octet of the path from each register.
 pub record Rows (received : List ℕ) (i n : ℕ) (rows : List (List ℕ)) : Type 0 where
-  pub at : (k : ℕ) → i ≤ k → k < n → (register : ℕ) → register < 64 → Ahead received (8 * k) 8 register (getD (getD rows k []) register 0 % 256)
+  pub at : (k : ℕ) → i ≤ k → k < n → (register : ℕ) → register < 64 → Ahead received (8 * k) 8 register (ofRegister (getD rows k []) register)
 
 -- The whole path from a register is in the data, and leads to `end`.
 pub record Walked (received : List ℕ) (register : ℕ) (before after : List ℕ) (end : ℕ) : Type 0 where

@@ -2,12 +2,14 @@
 mod back;
 mod costs;
 mod steps;
+mod turning;
 mod walk;
 
 ghost use Rattle.viterbi.specs.Outcome.{LikeliestOutcome};
 use back::rows_back;
 use refusals::Parameter;
 use refusals::Verdict;
+use turning::turned;
 use walk::walk;
 
 pub enum Sought {
@@ -16,9 +18,15 @@ pub enum Sought {
     Refused(Parameter),
 }
 
-// The words of the 64 registers at the start, and the base above which their costs stand.
+// The costs to go of the 64 registers above a base, and the ways that have them, as far as they are gathered.
+struct Column {
+    costs: [u8; 64],
+    ways: [u8; 64],
+}
+
+// The costs to go at the start, and the base above which they stand.
 struct Start {
-    words: [u16; 64],
+    costs: [u8; 64],
     base: u32,
 }
 
@@ -29,11 +37,11 @@ pub fn likeliest(register: u32, symbols: &[u8], data: &mut [u8]) -> Sought
     if let Verdict::Refused(parameter) = checked {
         return Sought::Refused(parameter);
     }
-    let mut rows = [[0u16; 64]; 256];
+    let mut rows = [[0u8; 64]; 256];
     let start = rows_back(symbols, &mut rows);
-    let words = start.words;
+    let costs = start.costs;
     let from = register as usize;
-    let places = start.base + (words[from] / 256) as u32;
+    let places = start.base + costs[turned(from)] as u32;
     let reached = walk(symbols, &rows, from, data);
     Sought::Found {
         places: places,

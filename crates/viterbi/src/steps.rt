@@ -1,61 +1,79 @@
-// The words of the 64 registers, one for each: a cost to go above a base, times 256, and in the low eight bits the way that has it.
+// One bit back over a column, and its costs lowered. A column has the costs to go of the 64 registers, above a base, and the ways that have them, each
+// at the place of the register turned round: so the two registers that a bit leads to are 32 places apart, the two that it comes from side by side,
+// and the compiler makes vectors of all.
 ghost use mathlib.Core.Path.{_≡_};
 ghost use mathlib.Core.Bool.{cond};
-ghost use Prim.Native.Nat.{_≤_, _<_, _+_, _*_, _/_, min};
+ghost use Prim.Native.Nat.{_≤_, _<_, _+_, min};
 ghost use lib.Dec.{ltb};
-ghost use Rattle.viterbi.specs.Working.{Costs, Earlier, Below, Above, Lowered};
+ghost use Rattle.viterbi.specs.Working.{Costs, Earlier, Below, Under, Above, Lowered};
+use crate::Column;
 use crate::costs::cost_at;
 
-// The cheaper of two ways, each its branch and what is to go.
-fn cheaper(x: u16, a: u16, y: u16, b: u16) -> u16
-    requires { ⌜ (x ≤ 512) × (a ≤ 64500) × (y ≤ 512) × (b ≤ 64500) ⌝ }
-    ensures { λ r. ⌜ r ≡ min (x + a) (y + b) ⌝ }
+fn cheaper(zero: u8, one: u8) -> u8
+    ensures { λ r. ⌜ r ≡ min zero one ⌝ }
 {
-    let zero = x + a;
-    let one = y + b;
     if one < zero { one } else { zero }
 }
 
-// One bit back. The smaller word is the cheaper way, and of two equally cheap ones that with the bit 0, since the bit 1 has the weight in the low
-// eight bits. A register and the one 32 above it have the same two successors.
-pub(crate) fn bit_back(words: [u16; 64], costs: &[u16; 128], pair: usize, weight: u16) -> [u16; 64]
-    requires { ⌜ Costs (now costs) × (pair < 4) × Below 64000 words × (weight ≤ 128) ⌝ }
-    ensures { λ r. ⌜ Earlier words pair weight r ⌝ }
+// The way of the cheaper one; of two equally cheap ones that with the bit 0.
+fn way_of_cheaper(zero: u8, one: u8, otherwise: u8, chosen: u8) -> u8
+    ensures { λ r. ⌜ r ≡ cond (ltb one zero) chosen otherwise ⌝ }
 {
-    let mut after = [0u16; 64];
-    for r in 0..32 {
-        let zero = words[2 * r];
-        let one = words[2 * r + 1] + weight;
-        let x = cost_at(costs, pair, r);
-        let y = 512 - x;
-        after[r] = cheaper(x, zero, y, one);
-        after[r + 32] = cheaper(y, zero, x, one);
+    if one < zero { chosen } else { otherwise }
+}
+
+// The bit 1 has the weight in the way.
+pub(crate) fn bit_back(column: Column, list: &[u8; 128], pair: usize, weight: u8) -> Column
+    requires { ⌜ Costs (now list) × (pair < 4) × (weight ≤ 128) × Below 250 (column .costs) × Under weight (column .ways) ⌝ }
+    ensures { λ r. ⌜ Earlier column pair weight r ⌝ }
+{
+    let later = column.costs;
+    let ahead = column.ways;
+    let mut costs = [0u8; 64];
+    let mut ways = [0u8; 64];
+    for k in 0..32 {
+        let zero = later[k];
+        let one = later[k + 32];
+        let zero_way = ahead[k];
+        let one_way = ahead[k + 32] + weight;
+        let x = cost_at(list, pair, k);
+        let y = 2 - x;
+        let even_zero = x + zero;
+        let even_one = y + one;
+        let odd_zero = y + zero;
+        let odd_one = x + one;
+        costs[2 * k] = cheaper(even_zero, even_one);
+        costs[2 * k + 1] = cheaper(odd_zero, odd_one);
+        ways[2 * k] = way_of_cheaper(even_zero, even_one, zero_way, one_way);
+        ways[2 * k + 1] = way_of_cheaper(odd_zero, odd_one, zero_way, one_way);
     }
-    after
+    Column {
+        costs: costs,
+        ways: ways,
+    }
 }
 
-fn less(word: u16, taken: u16) -> u16
-    requires { ⌜ taken ≤ word / 256 * 256 ⌝ }
-    ensures { λ r. ⌜ r + taken ≡ word / 256 * 256 ⌝ }
+fn less(cost: u8, taken: u8) -> u8
+    requires { ⌜ taken ≤ cost ⌝ }
+    ensures { λ r. ⌜ r + taken ≡ cost ⌝ }
 {
-    word / 256 * 256 - taken
+    cost - taken
 }
 
-// The ways cleared, and the same taken from each cost.
-pub(crate) fn lowered(words: [u16; 64], taken: u16) -> [u16; 64]
-    requires { ⌜ Above taken words ⌝ }
-    ensures { λ r. ⌜ Lowered taken words r ⌝ }
+pub(crate) fn lowered(costs: [u8; 64], taken: u8) -> [u8; 64]
+    requires { ⌜ Above taken costs ⌝ }
+    ensures { λ r. ⌜ Lowered taken costs r ⌝ }
 {
-    let mut after = [0u16; 64];
-    for r in 0..64 {
-        after[r] = less(words[r], taken);
+    let mut after = [0u8; 64];
+    for k in 0..64 {
+        after[k] = less(costs[k], taken);
     }
     after
 }
 
 // What can be taken: no two costs differ by more than 12, so 64 of each once the first is 128.
-pub(crate) fn spare(first: u16) -> u16
-    ensures { λ r. ⌜ (r ≤ 16384) × (r ≡ cond (ltb 32767 first) 16384 0) ⌝ }
+pub(crate) fn spare(first: u8) -> u8
+    ensures { λ r. ⌜ (r ≤ 64) × (r ≡ cond (ltb 127 first) 64 0) ⌝ }
 {
-    if 32767 < first { 16384 } else { 0 }
+    if 127 < first { 64 } else { 0 }
 }

@@ -4,11 +4,12 @@ ghost use Prim.Native.Nat.{_≤_, _<_, _*_, _/_};
 ghost use lib.ListN.{length};
 ghost use Rattle.convolution.specs.Coder.{bitsOf};
 ghost use Rattle.viterbi.specs.Working.{Rows, Walked};
+use crate::turning::turned;
 
 // The last six bits of an octet are the register behind it.
 pub(crate) fn walk(
     symbols: &[u8],
-    rows: &[[u16; 64]; 256],
+    rows: &[[u8; 64]; 256],
     register: usize,
     data: &mut [u8],
 ) -> usize
@@ -18,8 +19,8 @@ pub(crate) fn walk(
     let n = symbols.len() / 2;
     let mut at = register;
     for i in 0..n {
-        let octet = rows[i][at] % 256;
-        data[i] = octet as u8;
+        let octet = rows[i][turned(at)];
+        data[i] = octet;
         at = (octet % 64) as usize;
     }
     at

@@ -1,9 +1,10 @@
 -- `likeliest` refuses as its check does, or walks the path.
+use mathlib.Core.Path.{ap}
 use mathlib.Core.List.{List}
 use Prim.Native.Nat.{ℕ}
 use native.Mathlib.Omega.{arith}
 use borrow.Author.Needs.{needs}
-use lib.ListN.{length, replicate, length-replicate}
+use lib.ListN.{length, getD, replicate, length-replicate}
 use Rattle.refusals.specs.Order.{FirstOf}
 use Rattle.refusals.specs.Calls.{likeliestOrder}
 use Rattle.refusals.proofs.Verdicts.{passed}
@@ -46,43 +47,41 @@ rows-back-requires c κs =
     let l = legal (c .before) in
     (l .limit, l .even, length-replicate {A = List ℕ} 256 (replicate 64 0))
 
-mul-places : tie.Need-mul-places
-mul-places c = search needs
+turned-requires : tie.Need-turned-requires
+turned-requires c κs = search needs
 
 array-read-places : tie.Need-array-read-places
-array-read-places c = omega (arith, legal (c .before .before .before) .register)
+array-read-places c = omega (arith, c .turned .ensures .1)
 
 cast-places : tie.Need-cast-places
-cast-places c =
-    let args = c .before .before .before .before .before .before .before .before .args in
-    let l = legal (c .before .before .before) in
-    let s = args .symbols .now in
-    omega (arith, l .limit, c .before .rows-back .ensures .0 .cost (args .register) (l .register), to-go-most (bitsOf s) (args .register), bits-length s)
+cast-places c = search needs
 
 add-places : tie.Need-add-places
 add-places c =
-    let args = c .before .before .before .before .before .before .before .before .before .args in
-    let l = legal (c .before .before .before .before) in
+    let args = c .before .before .before .before .before .before .before .before .before .before .args in
+    let l = legal (c .before .before .before .before .before) in
     let s = args .symbols .now in
-    omega (arith, l .limit, c .before .before .rows-back .ensures .0 .cost (args .register) (l .register), to-go-most (bitsOf s) (args .register), bits-length s)
+    let back = c .before .before .before .rows-back in
+    let place = ap (λ (p : ℕ). getD (back .result .costs) p 0) (c .before .turned .ensures .0) in
+    omega (arith, l .limit, place, back .ensures .0 .at (args .register) (l .register), to-go-most (bitsOf s) (args .register), bits-length s)
 
 walk-requires : tie.Need-walk-requires
 walk-requires c κs =
-    let l = legal (c .before .before .before .before .before .before) in
-    (l .limit, omega (arith, l .even, l .half), l .register, c .before .before .before .before .rows-back .ensures .1)
+    let l = legal (c .before .before .before .before .before .before .before) in
+    (l .limit, omega (arith, l .even, l .half), l .register, c .before .before .before .before .before .rows-back .ensures .1)
 
-cast-t20 : tie.Need-cast-t20
-cast-t20 c = search needs
+cast-t19 : tie.Need-cast-t19
+cast-t19 c = search needs
 
 same-length : tie.Need-same-length
 same-length c = search needs
 
 returns-2 : tie.Need-returns-2
 returns-2 c =
-    let told = c .before .before .before .before .before .before .before .before .before in
+    let told = c .before .before .before .before .before .before .before .before .before .before in
     let args = told .before .before .before .before .before .args in
-    let back = c .before .before .before .before .before .before .before .rows-back in
-    path-found (args .register) (args .symbols .now) (args .«data» .now) _ (back .result .words) (back .result .base) _ (accepted told) (back .ensures .0) (c .before .before .walk .ensures .1)
+    let back = c .before .before .before .before .before .before .before .before .rows-back in
+    path-found (args .register) (args .symbols .now) (args .«data» .now) _ (back .result .costs) (back .result .base) _ _ (accepted told) (back .ensures .0) (c .before .before .before .before .before .before .turned .ensures .0) (c .before .before .walk .ensures .1)
 
 pub likeliest-spec : {M : Type 1} → statement M
 likeliest-spec =
@@ -93,11 +92,11 @@ likeliest-spec =
     returns
     enum-told
     rows-back-requires
-    mul-places
+    turned-requires
     array-read-places
     cast-places
     add-places
     walk-requires
-    cast-t20
+    cast-t19
     same-length
     returns-2)

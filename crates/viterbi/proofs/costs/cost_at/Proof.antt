@@ -1,4 +1,4 @@
--- `cost_at` reads the list, which has 128 entries, at the pair and the register.
+-- `cost_at` reads the list, which has 128 entries, at the pair and the two registers.
 use borrow.Author.Needs.{needs}
 use Rattle.viterbi.proofs.costs.cost_at.Statement.{statement}
 use Rattle.viterbi.proofs.costs.cost_at.Tie as tie
@@ -9,9 +9,6 @@ mul-result c = search needs
 add-result : tie.Need-add-result
 add-result c = search needs
 
-mul-result-2 : tie.Need-mul-result-2
-mul-result-2 c = search needs
-
 element-copy-out-result : tie.Need-element-copy-out-result
 element-copy-out-result c = search needs
 
@@ -19,4 +16,4 @@ returns : tie.Need-returns
 returns c = c .before .pre .0 .each _ _ (c .before .pre .1) (c .before .pre .2)
 
 pub cost-at-spec : {M : Type 1} → statement M
-cost-at-spec = tie.close (tie.spec mul-result add-result mul-result-2 element-copy-out-result returns)
+cost-at-spec = tie.close (tie.spec mul-result add-result element-copy-out-result returns)

@@ -1,14 +1,7 @@
--- `cheaper` compares the two sums.
+-- `cheaper` compares the two. Said here, and not left to the search, so that an edit of the test is refused with the numbers at which it is wrong.
 use native.Mathlib.Omega.{arith}
-use borrow.Author.Needs.{needs}
 use Rattle.viterbi.proofs.steps.cheaper.Statement.{statement}
 use Rattle.viterbi.proofs.steps.cheaper.Tie as tie
-
-add-zero : tie.Need-add-zero
-add-zero c = search needs
-
-add-one : tie.Need-add-one
-add-one c = search needs
 
 returns : tie.Need-returns
 returns c = omega arith
@@ -17,4 +10,4 @@ returns-2 : tie.Need-returns-2
 returns-2 c = omega arith
 
 pub cheaper-spec : {M : Type 1} → statement M
-cheaper-spec = tie.close (tie.spec add-zero add-one returns returns-2)
+cheaper-spec = tie.close (tie.spec returns returns-2)
