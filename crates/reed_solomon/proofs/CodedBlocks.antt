@@ -22,8 +22,7 @@ use Rattle.refusals.proofs.Orders.{Numbered, Clear, accepted-clear, not-differe
 use Rattle.refusals.proofs.Legal.{LegalWords, legal-words}
 use Rattle.refusals.proofs.Verdicts.{parameter-nonzero, same-verdict}
 use Rattle.codewords.specs.Words.{Octets, Codeword, withFill}
-use Rattle.codewords.proofs.WordValues.{octet-at}
-use Rattle.words.proofs.Arrays.{octets-of}
+use Rattle.codewords.proofs.WordValues.{octet-at, octets-of}
 use Rattle.reed_solomon.specs.Blocks.{sentFrom, wordOf}
 use Rattle.reed_solomon.specs.Outcome.{Coded, EncodeOutcome}
 use Rattle.reed_solomon.specs.Rows.{inRow, rowsEntered, noRows}
