@@ -1,6 +1,5 @@
 -- The rows of check octets are the checks of the shift register, on the line: a word's symbols followed by its row, with the fill in front, are a codeword.
 use mathlib.Core.Path.{_≡_, refl, sym, ap, ap₂, _∙_, subst}
-use mathlib.Core.Logic.{inl, inr}
 use mathlib.Core.List.{List, [], _∷_, _++_, map, append-assoc}
 use Prim.Native.Nat.{ℕ, zero, suc, _+_, _-_, _*_, _≤_, _<_}
 use native.Mathlib.Nat.{zero-add}
@@ -8,7 +7,7 @@ use native.Mathlib.Numerals.{add-one}
 use native.Mathlib.Omega.{arith}
 use lib.ListN.{length, take, getD, replicate, length-append, length-map, length-replicate, replicate-append-replicate}
 use lib.Seq.{take-at}
-use Rattle.field.specs.Field.{_⊕_, whereSet, timesAlpha, shiftAndAdd, _·_, pow}
+use Rattle.field.specs.Field.{_⊕_, _·_}
 use Rattle.field.specs.Line.{toLine, toConventional}
 use Rattle.field.proofs.Sum.{⊕-zero}
 use Rattle.field.proofs.Product.{·-zero}
@@ -21,12 +20,13 @@ use Rattle.codewords.specs.Polynomials.{_⊞_, scaled}
 use Rattle.codewords.specs.Locators.{Generator}
 use Rattle.codewords.proofs.Polynomials.{length-scaled}
 use Rattle.codewords.proofs.WordValues.{zeros-octets, length-snoc}
-use Rattle.codewords.proofs.Checks.{generator8, generator16, generator8-right, generator16-right, push, checksFrom, checks, length-push, length-checks, checks-octets}
+use Rattle.codewords.proofs.Checks.{push, checksFrom, checks, length-push, length-checks, checks-octets}
 use Rattle.codewords.proofs.LineWords.{conversion-++}
 use Rattle.codewords.proofs.Codewords.{encoded-codeword}
 use Rattle.reed_solomon.specs.Blocks.{sentFrom}
-use Rattle.reed_solomon.specs.Rows.{withRoot, rooted, generator, inRow, product, entered}
+use Rattle.reed_solomon.specs.Rows.{generator, inRow, product, entered}
 use Rattle.reed_solomon.specs.EncoderWorking.{rowAfter}
+use Rattle.reed_solomon.proofs.GeneratorRoots.{generator-right}
 use Rattle.reed_solomon.proofs.StepTables.{toLine-zero}
 use Rattle.reed_solomon.proofs.Interleaving.{sent-length, sent-octets, sent-++}
 
@@ -149,22 +149,6 @@ checks-zeros generator us n p =
     ∙ checks-zeros-from generator us (replicate (length generator) 0) n (length-replicate (length generator) 0) p
 
 -- ---- a word with its row of checks
-
--- the generator of each strength is the product over its roots: one computed test for each
-eight : generator 8 ≡ generator8
-unfolding generator withRoot rooted generator8 _⊞_ scaled pow _·_ shiftAndAdd timesAlpha whereSet _⊕_
-eight = refl
-
-sixteen : generator 16 ≡ generator16
-unfolding generator withRoot rooted generator16 _⊞_ scaled pow _·_ shiftAndAdd timesAlpha whereSet _⊕_
-sixteen = refl
-
-pub generator-right : (e : ℕ) → OneOf strengths e → Generator (128 - e) (e + e) (generator e)
-generator-right e (inl h) =
-    subst (λ (n : ℕ). Generator (128 - n) (n + n) (generator n)) (sym h) (subst (Generator 120 16) (sym eight) generator8-right)
-generator-right e (inr (inl h)) =
-    subst (λ (n : ℕ). Generator (128 - n) (n + n) (generator n)) (sym h) (subst (Generator 112 32) (sym sixteen) generator16-right)
-generator-right e (inr (inr o)) = absurd o
 
 module _ (e : ℕ) (strength : OneOf strengths e) where
   right : Generator (128 - e) (e + e) (generator e)

@@ -1,5 +1,6 @@
 -- The laws of the Reed-Solomon coder, and the conditions of acceptance.
 pub mod Eight
+pub mod GeneratorRoots
 pub mod StepTables
 pub mod Interleaving
 pub mod CheckRows
