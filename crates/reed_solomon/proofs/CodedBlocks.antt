@@ -25,8 +25,8 @@ use Rattle.codewords.specs.Words.{Octets, Codeword, withFill}
 use Rattle.codewords.proofs.WordValues.{octet-at, octets-of}
 use Rattle.reed_solomon.specs.Blocks.{sentFrom, wordOf}
 use Rattle.reed_solomon.specs.Outcome.{Coded, EncodeOutcome}
-use Rattle.reed_solomon.specs.Rows.{inRow, rowsEntered, noRows}
-use Rattle.reed_solomon.specs.EncoderWorking.{rowAfter, RowsOn, ChecksPut}
+use Rattle.reed_solomon.specs.Rows.{inRow, rowsEntered, noRows, RowsOn, ChecksPut}
+use Rattle.reed_solomon.specs.EncoderWorking.{rowAfter}
 use Rattle.reed_solomon.proofs.Interleaving.{sent-is, sent-++, sent-information, place-below, symbol-below, word-at}
 use Rattle.reed_solomon.proofs.CheckRows.{row-front-size, row-codeword}
 use Rattle.reed_solomon.proofs.RowTurns.{frame-rows}

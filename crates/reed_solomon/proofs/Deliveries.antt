@@ -28,8 +28,7 @@ use Rattle.codewords.proofs.LineWords.{differing-self}
 use Rattle.reed_solomon.specs.declared.Decoded.{Decoded}
 use Rattle.reed_solomon.specs.declared.Decoded.the-variants.{Delivered, Refused}
 use Rattle.reed_solomon.specs.Blocks.{sentFrom, wordOf, sum}
-use Rattle.reed_solomon.specs.Rows.{noRows}
-use Rattle.reed_solomon.specs.EncoderWorking.{RowsOn}
+use Rattle.reed_solomon.specs.Rows.{noRows, RowsOn}
 use Rattle.reed_solomon.specs.Outcome.{Delivery, LowestLost, DecodeOutcome}
 use Rattle.reed_solomon.specs.DecoderWorking.{Standing, WordRows, Fitting, HasCodeword, Repaired}
 use Rattle.reed_solomon.proofs.Interleaving.{place-below, word-at}

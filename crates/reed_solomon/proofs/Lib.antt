@@ -9,6 +9,7 @@ pub mod CodedBlocks
 pub mod StandingChecks
 pub mod PortionSteps
 pub mod Settled
+pub mod StepsSettled
 pub mod Portions
 pub mod Gathering
 pub mod WordRepairs

@@ -22,8 +22,7 @@ use Rattle.refusals.proofs.Legal.{LegalWords, legal-words}
 use Rattle.refusals.proofs.Verdicts.{parameter-nonzero, same-verdict}
 use Rattle.reed_solomon.specs.declared.Row.{Row}
 use Rattle.reed_solomon.specs.declared.Progress.{Progress}
-use Rattle.reed_solomon.specs.Rows.{inRow, rowsEntered}
-use Rattle.reed_solomon.specs.EncoderWorking.{RowsOn, ChecksPut}
+use Rattle.reed_solomon.specs.Rows.{inRow, rowsEntered, RowsOn, MayEnter, ChecksPut, ChecksFit}
 use Rattle.reed_solomon.specs.Portions.{octetRows, heldRows, taken, closing, PortionOutcome, Checks, CloseOutcome}
 use Rattle.reed_solomon.proofs.Interleaving.{place-below}
 
@@ -62,6 +61,10 @@ place-small e i q portion written place closed legal = omega (arith, legal .with
   where
     few : 255 - 2 * e - q ≤ 255
     few = omega arith
+
+-- its symbols may enter, the first at any word
+pub portion-enters : (e i q portion written place : ℕ) (closed : Bool) (word : ℕ) → PortionLegal e i q portion written place closed → word < i → MayEnter e i word
+portion-enters e i q portion written place closed word legal h = record { strength = legal .words .strength; within = h; deep = legal .words .deep }
 
 -- the parts of the state that a portion leaves
 pub taken-is : (e i : ℕ) (state : Progress) (portion : List ℕ) (place word : ℕ) (rows after : List (List ℕ)) (held : List Row) → place ≡ state .place + length portion
@@ -117,9 +120,9 @@ close-legal e i q checks place closed first =
     clear : Clear (closeOrder e i q checks place closed)
     clear = accepted-clear (closeOrder e i q checks place closed) (omega arith, (omega arith, (omega arith, (omega arith, (omega arith, tt))))) first
 
-pub close-room : (e i q checks place : ℕ) (closed : Bool) → CloseLegal e i q checks place closed → (0 < i) × (i ≤ 8) × (0 ≤ checks) × (checks ≤ 0 + 32 * i)
-close-room e i q checks place closed legal =
-    (omega (arith, legal .words .some), legal .words .deep, omega arith, omega (arith, legal .output, mul-le-mul-right i few))
+pub close-fits : (e i q checks place : ℕ) (closed : Bool) → CloseLegal e i q checks place closed → ChecksFit i 0 checks
+close-fits e i q checks place closed legal =
+    record { some = omega (arith, legal .words .some); deep = legal .words .deep; within = omega arith; room = omega (arith, legal .output, mul-le-mul-right i few) }
   where
     few : 2 * e ≤ 32
     few = omega (arith, legal .words .strong)

@@ -11,8 +11,8 @@ use Rattle.refusals.specs.Sizes.{information, frameLength, blockLength}
 use Rattle.refusals.proofs.Legal.{LegalWords}
 use Rattle.codewords.specs.Words.{Codeword, withFill}
 use Rattle.reed_solomon.specs.Blocks.{sentFrom, wordOf}
-use Rattle.reed_solomon.specs.Rows.{inRow, noRows}
-use Rattle.reed_solomon.specs.EncoderWorking.{rowAfter, RowsOn}
+use Rattle.reed_solomon.specs.Rows.{inRow, noRows, RowsOn}
+use Rattle.reed_solomon.specs.EncoderWorking.{rowAfter}
 use Rattle.reed_solomon.specs.DecoderWorking.{RowStands, Standing, WordRows}
 use Rattle.reed_solomon.proofs.Interleaving.{sent-is, sent-++, sent-information, place-below, symbol-below}
 use Rattle.reed_solomon.proofs.CheckRows.{row-front-size, row-codeword}

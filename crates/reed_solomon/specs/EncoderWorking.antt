@@ -1,11 +1,11 @@
--- What the encoder keeps and writes on the way: rows of check octets, one for each word (document 01, "Codewords").
+-- What the encoder keeps on the way, rows of check octets, one for each word: what its private functions promise each other.
 use mathlib.Core.Path.{_≡_}
 use mathlib.Core.List.{List, [], _∷_, _++_, map}
-use Prim.Native.Nat.{ℕ, zero, suc, _+_, _*_, _%_, _<_}
-use lib.ListN.{length, take, getD, replicate}
+use Prim.Native.Nat.{ℕ, zero, suc, _+_, _*_}
+use lib.ListN.{length, getD, replicate}
 use Rattle.refusals.specs.Order.{OneOf}
 use Rattle.refusals.specs.Sizes.{strengths}
-use Rattle.reed_solomon.specs.Rows.{product, entered, inRow, rowsEntered}
+use Rattle.reed_solomon.specs.Rows.{product, entered, inRow, RowsOn}
 
 -- The eight rows of a generator: for each bit of the feedback, top bit first, what that bit alone adds.
 unfoldable pub tableRows : List ℕ → List ℕ → List ℕ
@@ -28,15 +28,6 @@ unfoldable pub rowAfter : List ℕ → ℕ → List ℕ → ℕ → ℕ → List
 rowAfter generator i frame w zero = replicate 32 0
 rowAfter generator i frame w (suc k) = entered generator (rowAfter generator i frame w k) (getD frame (k * i + w) 0)
 
--- The rows when symbols have entered, the first of them at any place of that word; and so by the table of that strength.
-abbrev pub RowsOn : ℕ → ℕ → ℕ → List (List ℕ) → List ℕ → List (List ℕ) → Type 0
-RowsOn e i word rows symbols after = (place : ℕ) → place % i ≡ word → after ≡ rowsEntered (inRow e) i place rows symbols
-
+-- The rows when symbols have entered, by the table of that strength.
 abbrev pub RowsBy : List ℕ → ℕ → ℕ → List (List ℕ) → List ℕ → List (List ℕ) → Type 0
 RowsBy table i word rows symbols after = (e : ℕ) → OneOf strengths e → StrengthTable e table → RowsOn e i word rows symbols after
-
--- From octet `start` on the block holds the rows interleaved; what stands before is as it was.
-pub record ChecksPut (rows : List (List ℕ)) (i start : ℕ) (before after : List ℕ) : Type 0 where
-  pub size : length after ≡ length before
-  pub front : take start after ≡ take start before
-  pub checks : (j w : ℕ) → w < i → start + (j * i + w) < length before → getD after (start + (j * i + w)) 0 ≡ getD (getD rows w []) j 0

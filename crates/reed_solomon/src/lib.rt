@@ -3,6 +3,7 @@ mod decoder;
 mod encoder;
 mod piecewise;
 mod recoding;
+mod steps;
 mod symbols;
 mod table_16;
 mod table_8;
@@ -16,6 +17,8 @@ pub use piecewise::portion;
 pub use piecewise::start;
 use refusals::Verdict;
 use refusals::WordRefusal;
+pub use steps::rows_entered;
+pub use steps::write_checks;
 
 // Decode's answer.
 pub enum Decoded {

@@ -5,8 +5,8 @@ ghost use Rattle.reed_solomon.specs.Portions.{octetRows, heldRows, noneT
 use crate::Portioned;
 use crate::Progress;
 use crate::Row;
-use crate::encoder::enter;
-use crate::encoder::put_checks;
+use crate::steps::rows_entered;
+use crate::steps::write_checks;
 use octets::copy_front;
 use refusals::Verdict;
 use refusals::close_parameters;
@@ -107,15 +107,15 @@ pub fn portion(
     }
     let words = depth as usize;
     let held = state.rows;
-    let mut rows = octet_rows(held);
-    enter(e, &mut rows, word_at(place, words), symbols, words);
+    let rows = octet_rows(held);
+    let after = rows_entered(e, rows, word_at(place, words), symbols, words);
     copy_front(symbols, written);
     Portioned {
         verdict: Verdict::Accepted,
         state: Progress {
             place: moved_on(place, n),
             closed: state.closed,
-            rows: held_rows(rows),
+            rows: held_rows(after),
         },
     }
 }
@@ -133,7 +133,7 @@ pub fn close(e: u32, depth: u32, fill: u32, state: Progress, checks: &mut [u8]) 
         };
     }
     let held = state.rows;
-    put_checks(octet_rows(held), depth as usize, 0, checks);
+    write_checks(octet_rows(held), depth as usize, 0, checks);
     Portioned {
         verdict: Verdict::Accepted,
         state: Progress {
