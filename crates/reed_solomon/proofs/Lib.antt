@@ -1,16 +1,5 @@
--- The laws of the Reed-Solomon coder, and the conditions of acceptance.
-pub mod Eight
-pub mod GeneratorRoots
-pub mod StepTables
-pub mod Interleaving
-pub mod CheckRows
-pub mod RowTurns
-pub mod CodedBlocks
+-- The laws of the decoder of blocks, and the conditions of acceptance.
 pub mod StandingChecks
-pub mod PortionSteps
-pub mod Settled
-pub mod StepsSettled
-pub mod Portions
 pub mod Gathering
 pub mod WordRepairs
 pub mod Deliveries
@@ -18,7 +7,3 @@ pub mod Deliverable
 pub mod DecodeSettled
 pub mod Conditions
 pub mod Fakes
-pub mod ZeroBlocks
-pub mod Bursts
-pub mod AlteredBlocks
-pub mod LongerBursts

@@ -1,8 +1,3 @@
--- Blocks of interleaved words, what encode and decode promise, bursts, and what the coder does on the way.
-pub mod Blocks
-pub mod Rows
+-- What decode promises, and what the decoder does on the way.
 pub mod Outcome
-pub mod Portions
-pub mod Bursts
-pub mod EncoderWorking
 pub mod DecoderWorking

@@ -5,9 +5,9 @@ ghost use Prim.Native.Nat.{_+_, _*_, _≤_, _<_};
 ghost use lib.ListN.{length, take};
 ghost use Rattle.refusals.specs.Order.{OneOf};
 ghost use Rattle.refusals.specs.Sizes.{strengths};
-ghost use Rattle.reed_solomon.specs.Rows.{noRows, RowsOn};
+ghost use Rattle.encoding.specs.Rows.{noRows, RowsOn};
 ghost use Rattle.reed_solomon.specs.DecoderWorking.{RowStands, Standing};
-use crate::steps::rows_entered;
+use encoding::rows_entered;
 
 // The words enter together, as in the encoder: one after the other each would wait for its own feedback.
 pub(crate) fn front_rows(e: u32, depth: usize, n: usize, block: &[u8]) -> [[u8; 32]; 8]
