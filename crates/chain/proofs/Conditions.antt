@@ -33,11 +33,12 @@ use Rattle.viterbi.specs.Outcome.{soughtNumber, LikeliestOutcome}
 use Rattle.viterbi.specs.declared.Sought.{Sought}
 use Rattle.reed_solomon.specs.declared.Decoded.{Decoded}
 use Rattle.reed_solomon.specs.declared.Decoded.the-variants as decoded
-use Rattle.reed_solomon.specs.Blocks.{wordOf, sentFrom, sum}
-use Rattle.reed_solomon.specs.declared.Progress.{Progress}
-use Rattle.reed_solomon.specs.Portions.{PortionOutcome, CloseOutcome}
-use Rattle.reed_solomon.specs.Outcome.{EncodeOutcome, Delivery, DecodeOutcome, decodedNumber}
-use Rattle.reed_solomon.proofs.CodedBlocks.{outcome-legal, coded-octets}
+use Rattle.encoding.specs.Blocks.{wordOf, sentFrom, sum}
+use Rattle.frame_portions.specs.declared.Progress.{Progress}
+use Rattle.frame_portions.specs.Portions.{PortionOutcome, CloseOutcome}
+use Rattle.encoding.specs.Outcome.{EncodeOutcome}
+use Rattle.reed_solomon.specs.Outcome.{Delivery, DecodeOutcome, decodedNumber}
+use Rattle.encoding.proofs.CodedBlocks.{outcome-legal, coded-octets}
 use Rattle.reed_solomon.proofs.Deliverable.{SomeLost, Passed, Order, all-found}
 use Rattle.reed_solomon.proofs.Conditions.{condition-two, condition-three-exactly-if}
 use Rattle.chain.specs.declared.Received.{Received}

@@ -16,7 +16,7 @@ use Rattle.refusals.proofs.Verdicts.{parameter-nonzero}
 use Rattle.reed_solomon.specs.declared.Decoded.{Decoded}
 use Rattle.reed_solomon.specs.declared.Decoded.the-variants as decoded
 use Rattle.reed_solomon.specs.Outcome.{DecodeOutcome, decodedNumber, decodedValue}
-use Rattle.reed_solomon.proofs.Eight.{eight}
+use Rattle.frame_portions.proofs.Eight.{eight}
 use Rattle.marker.specs.declared.Form.{Form}
 use Rattle.marker.specs.declared.Tested.{Tested}
 use Rattle.marker.specs.declared.Tested.the-variants as tested

@@ -6,11 +6,12 @@ use Prim.Native.Nat.{ℕ}
 use native.Mathlib.Decide.{ℕ-discrete}
 use Rattle.refusals.specs.Numbers.{verdictNumber}
 use Rattle.refusals.specs.declared.Verdict.{Verdict}
-use Rattle.reed_solomon.specs.Outcome.{EncodeOutcome, decodedNumber, decodedValue}
-use Rattle.reed_solomon.specs.declared.Progress.{Progress}
-use Rattle.reed_solomon.specs.Portions.{octetRows, PortionOutcome, CloseOutcome}
-use Rattle.reed_solomon.proofs.Settled.{encode-settled}
-use Rattle.reed_solomon.proofs.Portions.{portion-settled, close-settled}
+use Rattle.encoding.specs.Outcome.{EncodeOutcome}
+use Rattle.reed_solomon.specs.Outcome.{decodedNumber, decodedValue}
+use Rattle.frame_portions.specs.declared.Progress.{Progress}
+use Rattle.frame_portions.specs.Portions.{octetRows, PortionOutcome, CloseOutcome}
+use Rattle.encoding.proofs.Settled.{encode-settled}
+use Rattle.frame_portions.proofs.Portions.{portion-settled, close-settled}
 use Rattle.reed_solomon.proofs.DecodeSettled.{decode-settled}
 use Rattle.randomiser.specs.Outcome.{NextOutcome, RandomiseOutcome}
 use Rattle.randomiser.proofs.Settled.{next-bits-settled, randomise-settled}

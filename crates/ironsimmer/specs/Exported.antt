@@ -9,9 +9,10 @@ use lib.Dec.{eqb}
 use lib.ListN.{getD}
 use Rattle.refusals.specs.Numbers.{verdictNumber}
 use Rattle.refusals.specs.declared.Verdict.{Verdict}
-use Rattle.reed_solomon.specs.Outcome.{EncodeOutcome, DecodeOutcome, decodedNumber, decodedValue}
-use Rattle.reed_solomon.specs.declared.Progress.{Progress}
-use Rattle.reed_solomon.specs.Portions.{octetRows, heldRows, PortionOutcome, CloseOutcome}
+use Rattle.encoding.specs.Outcome.{EncodeOutcome}
+use Rattle.reed_solomon.specs.Outcome.{DecodeOutcome, decodedNumber, decodedValue}
+use Rattle.frame_portions.specs.declared.Progress.{Progress}
+use Rattle.frame_portions.specs.Portions.{octetRows, heldRows, PortionOutcome, CloseOutcome}
 use Rattle.randomiser.specs.Outcome.{RandomiseOutcome}
 use Rattle.marker.specs.declared.Form.{Form}
 use Rattle.marker.specs.declared.Form.the-variants.{True, Complement}

@@ -22,7 +22,7 @@ pub extern "C" fn ironsimmer_encode(
 ) -> u64
     ensures { λ r. ⌜ EncodeCall e depth fill (now (frame .entry)) (now (block .entry)) r (now (block .exit)) ⌝ }
 {
-    refusals::verdict_number(reed_solomon::encode(e, depth, fill, frame, block))
+    refusals::verdict_number(encoding::encode(e, depth, fill, frame, block))
 }
 
 #[no_mangle]
@@ -39,7 +39,7 @@ pub extern "C" fn ironsimmer_encode_portion(
 {
     let state = portions::state_of(progress, rows);
     portions::put(
-        reed_solomon::portion(e, depth, fill, state, portion, written),
+        frame_portions::portion(e, depth, fill, state, portion, written),
         progress,
         rows,
     )
@@ -58,7 +58,7 @@ pub extern "C" fn ironsimmer_encode_close(
 {
     let state = portions::state_of(progress, rows);
     portions::put(
-        reed_solomon::close(e, depth, fill, state, checks),
+        frame_portions::close(e, depth, fill, state, checks),
         progress,
         rows,
     )

@@ -19,11 +19,12 @@ use Rattle.codewords.proofs.LineWords.{differing-symmetric}
 use Rattle.codewords.proofs.Codewords.{good-unique, good-more-allowance}
 use Rattle.reed_solomon.specs.declared.Decoded.{Decoded}
 use Rattle.reed_solomon.specs.declared.Decoded.the-variants.{Delivered}
-use Rattle.reed_solomon.specs.Blocks.{wordOf, sentFrom, sum}
-use Rattle.reed_solomon.specs.Outcome.{Coded, EncodeOutcome, Delivery, DecodeOutcome, decodedNumber, decodedValue}
-use Rattle.reed_solomon.proofs.Interleaving.{word-at}
+use Rattle.encoding.specs.Blocks.{wordOf, sentFrom, sum}
+use Rattle.encoding.specs.Outcome.{Coded, EncodeOutcome}
+use Rattle.reed_solomon.specs.Outcome.{Delivery, DecodeOutcome, decodedNumber, decodedValue}
+use Rattle.encoding.proofs.Interleaving.{word-at}
 use Rattle.reed_solomon.proofs.Deliveries.{LegalBlock, legal-block, decode-numbers}
-use Rattle.reed_solomon.proofs.CodedBlocks.{encode-numbers}
+use Rattle.encoding.proofs.CodedBlocks.{encode-numbers}
 use Rattle.reed_solomon.proofs.Deliverable.{Passed, Order, delivered-is, all-found, accepted-passed, number-is, same-counts, same-total, same-frame}
 
 -- ---- condition 3

@@ -18,7 +18,7 @@ use Rattle.codewords.specs.Words.{differing}
 use Rattle.codewords.proofs.Codewords.{good-unique, good-more-allowance}
 use Rattle.reed_solomon.specs.declared.Decoded.{Decoded}
 use Rattle.reed_solomon.specs.declared.Decoded.the-variants.{Delivered, Refused}
-use Rattle.reed_solomon.specs.Blocks.{wordOf, sum}
+use Rattle.encoding.specs.Blocks.{wordOf, sum}
 use Rattle.reed_solomon.specs.Outcome.{Delivery, Lost, decodedNumber}
 use Rattle.reed_solomon.proofs.Deliveries.{decode-numbers}
 

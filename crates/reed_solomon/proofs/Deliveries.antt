@@ -27,13 +27,12 @@ use Rattle.codewords.specs.Words.{Good, differing}
 use Rattle.codewords.proofs.LineWords.{differing-self}
 use Rattle.reed_solomon.specs.declared.Decoded.{Decoded}
 use Rattle.reed_solomon.specs.declared.Decoded.the-variants.{Delivered, Refused}
-use Rattle.reed_solomon.specs.Blocks.{sentFrom, wordOf, sum}
-use Rattle.reed_solomon.specs.Rows.{noRows}
-use Rattle.reed_solomon.specs.EncoderWorking.{RowsOn}
+use Rattle.encoding.specs.Blocks.{sentFrom, wordOf, sum}
+use Rattle.encoding.specs.Rows.{noRows, RowsOn}
 use Rattle.reed_solomon.specs.Outcome.{Delivery, LowestLost, DecodeOutcome}
 use Rattle.reed_solomon.specs.DecoderWorking.{Standing, WordRows, Fitting, HasCodeword, Repaired}
-use Rattle.reed_solomon.proofs.Interleaving.{place-below, word-at}
-use Rattle.reed_solomon.proofs.CodedBlocks.{checks-rows}
+use Rattle.encoding.proofs.Interleaving.{place-below, word-at}
+use Rattle.encoding.proofs.CodedBlocks.{checks-rows}
 use Rattle.reed_solomon.proofs.StandingChecks.{word-rows, standing-coded}
 use Rattle.reed_solomon.proofs.WordRepairs.{sum-zeros}
 

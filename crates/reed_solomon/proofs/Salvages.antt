@@ -20,14 +20,14 @@ use Rattle.refusals.proofs.Orders.{Numbered, Clear, accepted-clear, not-differe
 use Rattle.refusals.proofs.Verdicts.{parameter-nonzero, same-verdict}
 use Rattle.codewords.proofs.LineWords.{differing-self}
 use Rattle.words.proofs.Arrays.{zero-at}
-use Rattle.reed_solomon.specs.Blocks.{sentFrom, wordOf}
-use Rattle.reed_solomon.specs.Rows.{noRows}
-use Rattle.reed_solomon.specs.EncoderWorking.{RowsOn}
+use Rattle.encoding.specs.Blocks.{sentFrom, wordOf}
+use Rattle.encoding.specs.Rows.{noRows}
+use Rattle.encoding.specs.Rows.{RowsOn}
 use Rattle.reed_solomon.specs.DecoderWorking.{Standing}
 use Rattle.reed_solomon.specs.Changes.{changesFrom}
 use Rattle.reed_solomon.specs.Salvaging.{WordSalvaged, Salvaged, SalvageOutcome}
 use Rattle.reed_solomon.specs.SalvageWorking.{WordsPut, MarksSet, Listed}
-use Rattle.reed_solomon.proofs.Interleaving.{place-below, sent-same}
+use Rattle.encoding.proofs.Interleaving.{place-below, sent-same}
 use Rattle.reed_solomon.proofs.Deliveries.{LegalBlock, legal-block, decode-numbers, coded-room, standing-good}
 use Rattle.reed_solomon.proofs.ChangeLists.{change-none}
 

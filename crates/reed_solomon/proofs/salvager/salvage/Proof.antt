@@ -7,7 +7,7 @@ use lib.Seq.{length-take-le}
 use Rattle.refusals.specs.Order.{FirstOf}
 use Rattle.refusals.specs.Calls.{salvageOrder, decodeParameters}
 use Rattle.refusals.proofs.Verdicts.{passed}
-use Rattle.reed_solomon.proofs.CodedBlocks.{octets-known}
+use Rattle.encoding.proofs.CodedBlocks.{octets-known}
 use Rattle.reed_solomon.proofs.Deliveries.{fitting, coded-room, enter-legal, checks-of-words}
 use Rattle.reed_solomon.proofs.Salvages.{salvage-decodes, salvage-refuses, block-fits, frame-fits, changes-room, salvages, salvages-coded}
 use borrow.Author.Needs.{needs}
