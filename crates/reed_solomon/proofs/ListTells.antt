@@ -8,7 +8,7 @@ use native.Mathlib.Decide.{ℕ-discrete}
 use lib.ListN.{length, getD, set, length-append}
 use lib.Seq.{getD-append-add}
 use Rattle.codewords.proofs.WordValues.{length-snoc}
-use Rattle.reed_solomon.specs.Changes.{changesFrom, applied, Tells}
+use Rattle.reed_solomon.specs.Changes.{change, changesFrom, applied, Tells}
 use Rattle.reed_solomon.proofs.ChangeLists.{change-none, change-one}
 
 tells-later : (from at : ℕ) (block entries : List ℕ) → from ≤ at → Tells at block entries → Tells from block entries
@@ -70,3 +70,26 @@ tells-changes (x ∷ block) (y ∷ after) front at e h =
         subst (λ (n : ℕ). Tells (suc n) (front ++ (x ∷ block)) (changesFrom (suc at) block after)) (sym place) later,
       )
     ]
+
+-- ---- the definitions, tried by themselves
+
+-- the second of three octets changed; octet 2,039, the last of the longest block; nothing changed
+pub one-changed : changesFrom 0 (1 ∷ 2 ∷ 3 ∷ []) (1 ∷ 5 ∷ 3 ∷ []) ≡ 0 ∷ 1 ∷ 2 ∷ 5 ∷ []
+unfolding changesFrom
+one-changed = refl
+
+pub last-changed : change 2039 170 85 ≡ 7 ∷ 247 ∷ 170 ∷ 85 ∷ []
+last-changed = refl
+
+pub none-changed : changesFrom 0 (1 ∷ 2 ∷ 3 ∷ []) (1 ∷ 2 ∷ 3 ∷ []) ≡ []
+unfolding changesFrom
+none-changed = refl
+
+pub one-applied : applied (0 ∷ 1 ∷ 2 ∷ 5 ∷ []) (1 ∷ 2 ∷ 3 ∷ []) ≡ 1 ∷ 5 ∷ 3 ∷ []
+unfolding applied
+one-applied = refl
+
+-- a list whose places fall tells nothing
+pub falling-places : Tells 0 (1 ∷ 2 ∷ 3 ∷ []) (0 ∷ 1 ∷ 2 ∷ 5 ∷ 0 ∷ 0 ∷ 1 ∷ 4 ∷ []) → ⊥
+unfolding Tells
+falling-places t = absurd (omega (arith, t .4 .0))
