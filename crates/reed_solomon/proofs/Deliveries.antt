@@ -64,8 +64,8 @@ frame-most e i q L = mul-le-mul most (L .deep)
     most : information e - q ≤ 255
     most = omega arith
 
-pub fitting : (e i q s : ℕ) (block repaired : List ℕ) (frame : ℕ) → length repaired ≡ 2040 → FirstOf (decodeParameters e i q s (length block) frame) 0 → Fitting e i q s block repaired
-fitting e i q s block repaired frame size f =
+pub fitting : (e i q s : ℕ) (block : List ℕ) (frame : ℕ) → FirstOf (decodeParameters e i q s (length block) frame) 0 → Fitting e i q s block
+fitting e i q s block frame f =
     let L : LegalBlock e i q s (length block) frame = legal-block e i q s (length block) frame f in
     record {
       strength = L .words .strength;
@@ -74,7 +74,6 @@ fitting e i q s block repaired frame size f =
       deep = L .words .deep;
       filled = L .words .filled;
       received = L .received;
-      room = omega (arith, frame-most e i q (L .words));
     }
 
 -- the rows of a block's own front fit behind it
@@ -235,8 +234,8 @@ module _ (e i q s : ℕ) (block frame : List ℕ) (f : FirstOf (decodeParameters
   L′ : LegalBlock e i q s (length block) (length frame)
   L′ = legal-block e i q s (length block) (length frame) f
 
-  good : (w : ℕ) → w < i → Good e q s (wordOf i q block w) (wordOf i q block w)
-  good w l =
+  pub standing-good : (w : ℕ) → w < i → Good e q s (wordOf i q block w) (wordOf i q block w)
+  standing-good w l =
       record {
         code = standing-coded e i q block (length frame) rows (L′ .words) (L′ .room) (L′ .received) (coded-room e i q s (length block) (length frame) f .2) R octets S w l;
         fill = take-at (replicate q 0) (sentFrom i block w 0 (255 - q)) q (length-replicate {A = ℕ} q 0);
@@ -248,7 +247,7 @@ module _ (e i q s : ℕ) (block frame : List ℕ) (f : FirstOf (decodeParameters
   as-it-stands =
       record {
         codewords = wordOf i q block;
-        good = good;
+        good = standing-good;
         symbols = λ k w m l. sym (word-at i q block w k (omega arith));
         count = λ w l. zero-at 8 w ∙ sym (differing-self (wordOf i q block w));
         beyond = λ w l. zero-at 8 w;

@@ -1,14 +1,14 @@
 -- Places in a block and the words that it interleaves: octet k i + w is symbol k of word w, and a word is known by its octets.
-use mathlib.Core.Path.{_≡_, refl, sym, ap, ap₂, _∙_}
+use mathlib.Core.Path.{_≡_, refl, sym, ap, ap₂, _∙_, subst}
 use mathlib.Core.Logic.{_↔_}
 use mathlib.Core.List.{List, [], _∷_, _++_}
 use Prim.Native.Nat.{ℕ, zero, suc, _+_, _-_, _*_, _/_, _%_, _≤_, _<_}
-use native.Mathlib.Nat.{add-zero, zero-add, add-suc, suc-add, add-comm, mod-eq-of-lt, mul-le-mul-right, mul-add-mod-self-right, add-mul-div-right, div-eq-of-lt}
+use native.Mathlib.Nat.{add-zero, zero-add, add-suc, suc-add, add-comm, mod-eq-of-lt, mul-le-mul-right, mul-add-mod-self-right, add-mul-div-right, div-eq-of-lt, div-add-mod', mod-lt}
 use native.Mathlib.Decide.{decLt}
 use native.Mathlib.Omega.{arith}
-use lib.ListN.{length, take, getD, replicate, length-replicate}
-use lib.Seq.{getD-take, getD-append-add, ext-getD}
-use Rattle.codewords.specs.Words.{Octets, differing}
+use lib.ListN.{length, take, drop, getD, replicate, length-replicate}
+use lib.Seq.{drop-at, getD-take, getD-append-add, ext-getD}
+use Rattle.codewords.specs.Words.{Octets, differing, withFill}
 use Rattle.codewords.proofs.LineWords.{unless-alike, differing-front}
 use Rattle.reed_solomon.specs.Blocks.{sentFrom, wordOf}
 
@@ -131,3 +131,19 @@ sent-information i frame block w k h size first =
   where
     below : (j : ℕ) → j < k → (0 + j) * i + w < length frame
     below j l = omega (arith, place-below i j k w l h)
+
+-- ---- a block is known by its words
+
+-- what follows the fill of a word
+pub unfilled : (q : ℕ) (a b : List ℕ) → withFill q a ≡ withFill q b → a ≡ b
+unfilled q a b e = sym (drop-at (replicate q 0) a q (length-replicate q 0)) ∙ ap (drop q) e ∙ drop-at (replicate q 0) b q (length-replicate q 0)
+
+pub known-by-words : (i n : ℕ) (a b : List ℕ) → 0 < i → length a ≡ n * i → length b ≡ n * i → ((w : ℕ) → w < i → sentFrom i a w 0 n ≡ sentFrom i b w 0 n) → a ≡ b
+known-by-words i n a b some long short same =
+    ext-getD 0 a b (long ∙ sym short)
+    (λ p h. let back : p / i * i + p % i ≡ p = div-add-mod' p i in
+    subst (λ (x : ℕ). getD a x 0 ≡ getD b x 0) back
+    (octet (p / i) (p % i) (symbol-below i (p / i) n (p % i) (subst (λ (x : ℕ). x < n * i) (sym back) (omega arith))) (mod-lt p some)))
+  where
+    octet : (k w : ℕ) → k < n → w < i → getD a (k * i + w) 0 ≡ getD b (k * i + w) 0
+    octet k w h l = sym (sent-symbol i a w n k h) ∙ ap (λ (word : List ℕ). getD word k 0) (same w l) ∙ sent-symbol i b w n k h

@@ -20,3 +20,9 @@ pub mod ZeroBlocks
 pub mod Bursts
 pub mod AlteredBlocks
 pub mod LongerBursts
+pub mod SalvagedWords
+pub mod ChangeLists
+pub mod ListTells
+pub mod Salvages
+pub mod SalvageSettled
+pub mod SalvageConditions

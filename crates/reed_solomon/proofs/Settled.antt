@@ -1,12 +1,11 @@
 -- encode is settled by its contract: two outcomes that it permits for the same inputs are equal, answer and block.
 use mathlib.Core.Path.{_≡_, sym, ap, _∙_, subst}
 use mathlib.Core.List.{List}
-use Prim.Native.Nat.{ℕ, _+_, _-_, _*_, _/_, _%_, _<_}
-use native.Mathlib.Nat.{mod-lt, div-add-mod'}
+use Prim.Native.Nat.{ℕ, _+_, _-_, _*_, _<_}
 use native.Mathlib.Decide.{ℕ-discrete}
 use native.Mathlib.Omega.{arith}
-use lib.ListN.{length, take, getD, replicate, length-replicate}
-use lib.Seq.{take-at, take-append-add, ext-getD}
+use lib.ListN.{length, take, replicate, length-replicate}
+use lib.Seq.{take-at, take-append-add}
 use Rattle.refusals.specs.Order.{FirstOf}
 use Rattle.refusals.specs.Sizes.{information}
 use Rattle.refusals.specs.Numbers.{verdictNumber}
@@ -17,7 +16,7 @@ use Rattle.codewords.specs.Words.{withFill}
 use Rattle.codewords.proofs.Codewords.{checks-unique}
 use Rattle.reed_solomon.specs.Blocks.{sentFrom, wordOf}
 use Rattle.reed_solomon.specs.Outcome.{Coded, EncodeOutcome}
-use Rattle.reed_solomon.proofs.Interleaving.{symbol-below, sent-length, word-at, sent-++, sent-information}
+use Rattle.reed_solomon.proofs.Interleaving.{sent-length, sent-++, sent-information, unfilled, known-by-words}
 use Rattle.reed_solomon.proofs.CodedBlocks.{EncodeLegal, encode-legal}
 
 -- ---- two coded blocks of one frame are equal
@@ -47,16 +46,10 @@ module _ (e i q : ℕ) (frame : List ℕ) (size : ℕ) (legal : EncodeLegal e i 
     same-word w h =
         checks-unique e (wordOf i q a w) (wordOf i q b w) (omega (arith, legal .words .strong)) (A .words w h) (B .words w h) (word-information a A w h ∙ sym (word-information b B w h))
 
-    same-octet : (k w : ℕ) → k < 255 - q → w < i → getD a (k * i + w) 0 ≡ getD b (k * i + w) 0
-    same-octet k w h l = sym (word-at i q a w k h) ∙ ap (λ (word : List ℕ). getD word (q + k) 0) (same-word w l) ∙ word-at i q b w k h
-
     pub coded-unique : length a ≡ size → length b ≡ size → a ≡ b
     coded-unique long short =
-        ext-getD 0 a b (long ∙ sym short)
-        (λ n h. subst (λ (m : ℕ). getD a m 0 ≡ getD b m 0) (div-add-mod' n i)
-        (same-octet (n / i) (n % i)
-        (symbol-below i (n / i) (255 - q) (n % i) (subst (λ (m : ℕ). m < (255 - q) * i) (sym (div-add-mod' n i)) (omega (arith, legal .output, long))))
-        (mod-lt n (omega (arith, legal .words .some)))))
+        known-by-words i (255 - q) a b (omega (arith, legal .words .some)) (long ∙ legal .output) (short ∙ legal .output)
+        (λ w h. unfilled q (sentFrom i a w 0 (255 - q)) (sentFrom i b w 0 (255 - q)) (same-word w h))
 
 -- ---- encode
 

@@ -4,7 +4,7 @@ use mathlib.Core.Bool.{Bool, true, false, not}
 use borrow.Author.Tests.{not-true, not-false}
 use mathlib.Core.List.{List, [], _∷_, _++_}
 use Prim.Native.Nat.{ℕ, zero, suc, _+_, _-_, _*_, _≤_, _<_}
-use native.Mathlib.Nat.{mul-le-mul-right}
+use native.Mathlib.Nat.{mul-le-mul, mul-le-mul-right}
 use native.Mathlib.Omega.{arith}
 use native.Mathlib.Decide.{decLt, ℕ-discrete}
 use lib.Bits.{bitXor}
@@ -41,14 +41,14 @@ filled-at q word k =
 
 -- ---- one word
 
-module _ (e i q s : ℕ) (block : List ℕ) (w : ℕ) (frame : List ℕ) (F : Fitting e i q s block frame) where
+module _ (e i q s : ℕ) (block : List ℕ) (w : ℕ) (F : Fitting e i q s block) where
   abbrev sent : List ℕ
   sent = sentFrom i block w 0 (255 - q)
 
   size : length sent ≡ 255 - q
   size = sent-length i block w 0 (255 - q)
 
-  fill-is : fillOf sent ≡ q
+  pub fill-is : fillOf sent ≡ q
   fill-is = omega (arith, size, F .filled)
 
   legal : LegalWord e s sent
@@ -69,8 +69,8 @@ module _ (e i q s : ℕ) (block : List ℕ) (w : ℕ) (frame : List ℕ) (F : Fi
     few y = omega (arith, O .whenFound y .counted, O .whenFound y .good .close)
 
     -- one was found, and put into its places
-    pub has : found ≡ true → (after : List ℕ) → Put i w (255 - q - 2 * e) block errors frame after → HasCodeword e i q s block w after count
-    has y after P =
+    has : found ≡ true → (frame after : List ℕ) → Put i w (255 - q - 2 * e) block errors frame after → HasCodeword e i q s block w after count
+    has y frame after P =
         record {
           codeword = withFill q (repaired sent errors);
           good = subst (λ (f : ℕ). Good e f s (withFill f sent) (withFill f (repaired sent errors))) fill-is (O .whenFound y .good);
@@ -82,7 +82,7 @@ module _ (e i q s : ℕ) (block : List ℕ) (w : ℕ) (frame : List ℕ) (F : Fi
 
 -- ---- the word less the codeword that its information symbols and a row make
 
-module _ (e i q s : ℕ) (block : List ℕ) (w : ℕ) (frame : List ℕ) (F : Fitting e i q s block frame) (row rest : List ℕ) (C : CodedBy e i q block w row)
+module _ (e i q s : ℕ) (block : List ℕ) (w : ℕ) (F : Fitting e i q s block) (row rest : List ℕ) (C : CodedBy e i q block w row)
     (D : Difference row i block w (255 - q - 2 * e) (255 - q) rest) where
   abbrev symbols : ℕ
   symbols = information e - q
@@ -133,7 +133,7 @@ module _ (e i q s : ℕ) (block : List ℕ) (w : ℕ) (frame : List ℕ) (F : Fi
       inside k h = omega (arith, length-pair less coded (less-size ∙ sym coded-size), less-size)
 
   -- its outcome is the word's
-  word-outcome : (found : Bool) (count : ℕ) (errors : List ℕ) → WordOutcome e s less found count errors → WordOutcome e s (sentFrom i block w 0 (255 - q)) found count errors
+  pub word-outcome : (found : Bool) (count : ℕ) (errors : List ℕ) → WordOutcome e s less found count errors → WordOutcome e s (sentFrom i block w 0 (255 - q)) found count errors
   word-outcome found count errors O =
       subst (λ (l : List ℕ). WordOutcome e s l found count errors) whole
       (outcome-⊞ e s less coded (coded-size ∙ sym less-size)
@@ -144,34 +144,22 @@ module _ (e i q s : ℕ) (block : List ℕ) (w : ℕ) (frame : List ℕ) (F : Fi
 
 -- ---- what `repair_word` answers
 
-pub put-room : (e i q s : ℕ) (block frame : List ℕ) → Fitting e i q s block frame → (255 - q - 2 * e) * i ≤ length frame
-put-room e i q s block frame F = subst (λ (n : ℕ). n * i ≤ length frame) (swapped e q) (F .room)
-  where
-    swapped : (e q : ℕ) → information e - q ≡ 255 - q - 2 * e
-    swapped e q = omega arith
+-- the first n symbols of every word have room in a list that can hold the longest block, and are in the block
+pub symbols-room : (e i q s n : ℕ) (block frame : List ℕ) → Fitting e i q s block → n ≤ 255 → 2040 ≤ length frame → n * i ≤ length frame
+symbols-room e i q s n block frame F few room = omega (arith, mul-le-mul few (F .deep))
 
-pub front-room : (e i q s : ℕ) (block frame : List ℕ) → Fitting e i q s block frame → (255 - q - 2 * e) * i ≤ length block
-front-room e i q s block frame F = omega (arith, F .received, mul-le-mul-right i (fewer (255 - q) (2 * e)))
-  where
-    fewer : (n k : ℕ) → n - k ≤ n
-    fewer n k = omega arith
+pub symbols-sent : (e i q s n : ℕ) (block : List ℕ) → Fitting e i q s block → n ≤ 255 - q → n * i ≤ length block
+symbols-sent e i q s n block F few = omega (arith, F .received, mul-le-mul-right i few)
 
-pub still-fits : (e i q s : ℕ) (block frame after : List ℕ) → length after ≡ length frame → Fitting e i q s block frame → Fitting e i q s block after
-still-fits e i q s block frame after same F =
-    record { strength = F .strength; allowance = F .allowance; some = F .some; deep = F .deep; filled = F .filled; received = F .received; room = omega (arith, F .room) }
-
-module _ (e i q s : ℕ) (block : List ℕ) (w : ℕ) (frame : List ℕ) (F : Fitting e i q s block frame) (row rest : List ℕ) (C : CodedBy e i q block w row)
-    (D : Difference row i block w (255 - q - 2 * e) (255 - q) rest) (found : Bool) (count : ℕ) (errors : List ℕ) (O : WordOutcome e s (take (255 - q) rest) found count errors) where
-  O′ : WordOutcome e s (sentFrom i block w 0 (255 - q)) found count errors
-  O′ = word-outcome e i q s block w frame F row rest C D found count errors O
-
+module _ (e i q s : ℕ) (block : List ℕ) (w : ℕ) (F : Fitting e i q s block) (frame : List ℕ) (found : Bool) (count : ℕ) (errors : List ℕ)
+    (O : WordOutcome e s (sentFrom i block w 0 (255 - q)) found count errors) where
   pub word-lost : not found ≡ true → WordRepaired e i q s block w frame false 0 frame
   word-lost n =
       record {
         size = refl;
         others = λ k v h d. refl;
         whenFound = λ y. let z : _≡_ {A = ℕ} 0 1 = cc in absurd (omega arith);
-        whenNot = λ y. lost e i q s block w frame F found count errors O′ (not-true found n);
+        whenNot = λ y. lost e i q s block w F found count errors O (not-true found n);
       }
 
   pub word-found : not found ≡ false → (after : List ℕ) → Put i w (255 - q - 2 * e) block errors frame after → WordRepaired e i q s block w frame true count after
@@ -179,7 +167,7 @@ module _ (e i q s : ℕ) (block : List ℕ) (w : ℕ) (frame : List ℕ) (F : Fi
       record {
         size = P .size;
         others = P .others;
-        whenFound = λ t. has e i q s block w frame F found count errors O′ (not-false found y) after P;
+        whenFound = λ t. has e i q s block w F found count errors O (not-false found y) frame after P;
         whenNot = λ n. let z : _≡_ {A = ℕ} 0 1 = cc in absurd (omega arith);
       }
 

@@ -7,7 +7,7 @@ use Prim.Native.Nat.{ℕ, _+_, _-_, _*_, _≤_, _<_}
 use lib.Bits.{bitXor}
 use lib.ListN.{length, take, getD}
 use Rattle.refusals.specs.Order.{OneOf}
-use Rattle.refusals.specs.Sizes.{strengths, information, frameLength, blockLength}
+use Rattle.refusals.specs.Sizes.{strengths, information, blockLength}
 use Rattle.codewords.specs.Words.{Codeword, Good, differing, withFill}
 use Rattle.reed_solomon.specs.Blocks.{sentFrom, wordOf, sum}
 use Rattle.reed_solomon.specs.Outcome.{Lost}
@@ -38,15 +38,14 @@ pub record Put (i w n : ℕ) (block errors before after : List ℕ) : Type 0 whe
   pub here : (k : ℕ) → k < n → getD after (k * i + w) 0 ≡ bitXor (getD block (k * i + w) 0) (getD errors k 0)
   pub others : (k v : ℕ) → v < i → v ≢ w → getD after (k * i + v) 0 ≡ getD before (k * i + v) 0
 
--- Legal numbers, and lists of the lengths that they require.
-pub record Fitting (e i q s : ℕ) (block frame : List ℕ) : Type 0 where
+-- Legal numbers, and a block of the length that they require.
+pub record Fitting (e i q s : ℕ) (block : List ℕ) : Type 0 where
   pub strength : OneOf strengths e
   pub allowance : s ≤ e
   pub some : 0 < i
   pub deep : i ≤ 8
   pub filled : q < information e
   pub received : length block ≡ blockLength i q
-  pub room : frameLength e i q ≤ length frame
 
 -- Word w has its codeword: it is good, its information symbols stand in their places of the frame, and the count is its own.
 pub record HasCodeword (e i q s : ℕ) (block : List ℕ) (w : ℕ) (after : List ℕ) (count : ℕ) : Type 0 where

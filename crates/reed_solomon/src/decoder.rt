@@ -1,16 +1,16 @@
 // Decoding of a whole block: one pass over it gives each word the checks that its information symbols would have; by what those received differ
 // from them its errors are found; and the frame is written only once the last word is known to be good.
 ghost use mathlib.Core.Path.{_≡_};
-ghost use Prim.Native.Nat.{_+_, _-_, _*_, _<_};
+ghost use Prim.Native.Nat.{_≤_, _<_};
 ghost use lib.ListN.{length, replicate};
 ghost use Rattle.reed_solomon.specs.declared.Decoded.the-variants as decoded;
 ghost use Rattle.reed_solomon.specs.Outcome.{DecodeOutcome};
 ghost use Rattle.reed_solomon.specs.DecoderWorking.{Fitting, CodedBy, WordRows, WordRepaired, Repaired};
 use crate::Decoded;
 use crate::Decoding;
+use crate::finding::word_errors;
 use crate::recoding::front_rows;
 use crate::recoding::has_checks;
-use crate::symbols::difference;
 use crate::symbols::put_repaired;
 use octets::copy_front;
 use refusals::Verdict;
@@ -32,13 +32,10 @@ fn repair_word(
     row: [u8; 32],
     frame: &mut [u8],
 ) -> WordRepair
-    requires { ⌜ Fitting e depth fill s (now block) (now frame) × (w < depth) × CodedBy e depth fill (now block) w row ⌝ }
+    requires { ⌜ Fitting e depth fill s (now block) × (2040 ≤ length (now frame)) × (w < depth) × CodedBy e depth fill (now block) w row ⌝ }
     ensures { λ r. ⌜ WordRepaired e depth fill s (now (block .entry)) w (now (frame .entry)) (r .found) (r .count) (now (frame .exit)) ⌝ }
 {
-    let n = 255 - fill;
-    let first = n - 2 * (e as usize);
-    let rest = difference(row, block, depth, w, first, n);
-    let answer = words::find_errors(e, s, &rest[..n]);
+    let answer = word_errors(e, depth, fill, s, block, w, row);
     let found = answer.found;
     if !found {
         return WordRepair {
@@ -47,7 +44,8 @@ fn repair_word(
         };
     }
     let errors = answer.errors;
-    put_repaired(block, &errors, depth, w, first, frame);
+    let symbols = 255 - fill - 2 * (e as usize);
+    put_repaired(block, &errors, depth, w, symbols, frame);
     WordRepair {
         found: true,
         count: answer.count,
@@ -70,7 +68,7 @@ fn repair_words(
     rows: [[u8; 32]; 8],
     frame: &mut [u8],
 ) -> Repair
-    requires { ⌜ Fitting e depth fill s (now block) (now frame) × WordRows e depth fill (now block) rows ⌝ }
+    requires { ⌜ Fitting e depth fill s (now block) × (2040 ≤ length (now frame)) × WordRows e depth fill (now block) rows ⌝ }
     ensures { λ r. ⌜ Repaired e depth fill s (now (block .entry)) (r .words) (r .counts) (r .total) (length (now (frame .entry))) (now (frame .exit)) ⌝ }
 {
     let mut counts = [0u8; 8];

@@ -1,8 +1,11 @@
 // The Reed-Solomon coder with interleaving and virtual fill.
 mod decoder;
 mod encoder;
+mod finding;
+mod listing;
 mod piecewise;
 mod recoding;
+mod salvager;
 mod symbols;
 mod table_16;
 mod table_8;
@@ -16,6 +19,7 @@ pub use piecewise::portion;
 pub use piecewise::start;
 use refusals::Verdict;
 use refusals::WordRefusal;
+pub use salvager::salvage;
 
 // Decode's answer.
 pub enum Decoded {
@@ -46,4 +50,13 @@ pub struct Progress {
 pub struct Portioned {
     pub verdict: Verdict,
     pub state: Progress,
+}
+
+// Salvage's answer: accepted or refused; which of eight words are repaired (1) or not (0); the number of differing symbols in each; and how many
+// entries the list has. All zero on a refusal.
+pub struct SalvageReport {
+    pub answer: Verdict,
+    pub marks: [u8; 8],
+    pub counts: [u8; 8],
+    pub entries: u32,
 }

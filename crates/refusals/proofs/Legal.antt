@@ -2,13 +2,13 @@
 use mathlib.Core.Path.{_≡_}
 use mathlib.Core.Logic.{_≢_, inl, inr}
 use mathlib.Core.List.{List, [], _∷_}
-use Prim.Native.Nat.{ℕ, _/_, _%_, _≤_, _<_}
+use Prim.Native.Nat.{ℕ, _*_, _/_, _%_, _≤_, _<_}
 use native.Mathlib.Omega.{arith}
 use Rattle.refusals.specs.Order.{FirstOf, OneOf}
-use Rattle.refusals.specs.Sizes.{strengths, depths, rates, period, information}
-use Rattle.refusals.specs.Calls.{likeliestOrder}
+use Rattle.refusals.specs.Sizes.{strengths, depths, rates, period, information, blockLength}
+use Rattle.refusals.specs.Calls.{decodeParameters, salvageOrder, likeliestOrder}
 use Rattle.refusals.specs.Working.{wordParameters, allowedParameters, coderParameters}
-use Rattle.refusals.proofs.Orders.{Numbered, Clear, accepted-clear, not-different, one-of}
+use Rattle.refusals.proofs.Orders.{Numbered, Clear, accepted-clear, first-accepts, not-different, one-of}
 
 -- The least and the largest number of a list bound every one of it.
 abbrev pub Within : ℕ → ℕ → List ℕ → Type 0
@@ -89,8 +89,20 @@ word-numbers e i q = (omega arith, (omega arith, (omega arith, tt)))
 pub allowed-numbers : (e i q s : ℕ) → Numbered (allowedParameters e i q s)
 allowed-numbers e i q s = (omega arith, (omega arith, (omega arith, (omega arith, tt))))
 
+pub decode-numbers : (e i q s block frame : ℕ) → Numbered (decodeParameters e i q s block frame)
+decode-numbers e i q s block frame = (omega arith, (omega arith, (omega arith, (omega arith, (omega arith, (omega arith, tt))))))
+
+pub salvage-numbers : (e i q s block frame list : ℕ) → Numbered (salvageOrder e i q s block frame list)
+salvage-numbers e i q s block frame list = (omega arith, (omega arith, (omega arith, (omega arith, (omega arith, (omega arith, (omega arith, tt)))))))
+
 pub accepted-words : (e i q : ℕ) → FirstOf (wordParameters e i q) 0 → LegalWords e i q
 accepted-words e i q f = legal-words e i q (accepted-clear (wordParameters e i q) (word-numbers e i q) f)
+
+-- Salvage accepts what decode's checks accept, with a list of four octets for each octet of the block.
+pub accepted-salvage : (e i q s block frame list : ℕ) → FirstOf (salvageOrder e i q s block frame list) 0 → FirstOf (decodeParameters e i q s block frame) 0 × (list ≡ 4 * blockLength i q)
+accepted-salvage e i q s block frame list f =
+    let clear = accepted-clear (salvageOrder e i q s block frame list) (salvage-numbers e i q s block frame list) f in
+    (first-accepts _ (decodeParameters e i q s block frame) (decode-numbers e i q s block frame) f, not-different list (4 * blockLength i q) (clear .1 .1 .1 .1 .1 .1 .0))
 
 -- What is known of the coder's numbers once check 7 has passed.
 pub record LegalCoder (r bits at held : ℕ) : Type 0 where

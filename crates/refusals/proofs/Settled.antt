@@ -7,7 +7,7 @@ use lib.ListN.{getD}
 use Rattle.refusals.specs.Order.{Check, FirstOf, OneOf, Tells}
 use Rattle.refusals.specs.Sizes.{strengths}
 use Rattle.refusals.specs.Numbers.{parameterNumber, verdictNumber, markerNumber}
-use Rattle.refusals.specs.Calls.{encodeOrder, portionOrder, closeOrder, decodeParameters, randomiseOrder, convolveOrder, coderCloseOrder, likeliestOrder, markerParameters, searchOrder, transmitOrder, receiveParameters}
+use Rattle.refusals.specs.Calls.{encodeOrder, portionOrder, closeOrder, decodeParameters, salvageOrder, randomiseOrder, convolveOrder, coderCloseOrder, likeliestOrder, markerParameters, searchOrder, transmitOrder, receiveParameters}
 use Rattle.refusals.specs.declared.Parameter.{Parameter}
 use Rattle.refusals.specs.declared.Parameter.the-variants.{Strength, Depth, Fill, Allowance, Input, Output, Rate, Tolerance, Start, Progress}
 use Rattle.refusals.specs.declared.Verdict.{Verdict}
@@ -75,6 +75,9 @@ module _ (v w : Verdict) where
 
   pub decode-parameters-settled : (e i q s block frame : ℕ) → Settled (decodeParameters e i q s block frame)
   decode-parameters-settled e i q s block frame = verdict-settled (decodeParameters e i q s block frame) v w
+
+  pub salvage-parameters-settled : (e i q s block frame list : ℕ) → Settled (salvageOrder e i q s block frame list)
+  salvage-parameters-settled e i q s block frame list = verdict-settled (salvageOrder e i q s block frame list) v w
 
   pub receive-parameters-settled : (e i q s t marked frame : ℕ) → Settled (receiveParameters e i q s t marked frame)
   receive-parameters-settled e i q s t marked frame = verdict-settled (receiveParameters e i q s t marked frame) v w

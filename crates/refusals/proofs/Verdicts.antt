@@ -6,14 +6,15 @@ use mathlib.Core.List.{List, [], _∷_}
 use Prim.Native.Nat.{ℕ, _<_}
 use native.Mathlib.Omega.{arith}
 use Rattle.refusals.specs.Order.{Check, FirstOf, Tells}
+use Rattle.refusals.specs.Sizes.{frameLength, blockLength}
 use Rattle.refusals.specs.Numbers.{parameterNumber, verdictNumber}
-use Rattle.refusals.specs.Calls.{allowance, input, output}
+use Rattle.refusals.specs.Calls.{decodeParameters, allowance, input, output}
 use Rattle.refusals.specs.Working.{wordParameters, allowedParameters, coderParameters}
 use Rattle.refusals.specs.declared.Parameter.{Parameter}
 use Rattle.refusals.specs.declared.Parameter.the-variants.{Strength, Depth, Fill, Allowance, Input, Output, Rate, Tolerance, Start, Progress}
 use Rattle.refusals.specs.declared.Verdict.{Verdict}
 use Rattle.refusals.specs.declared.Verdict.the-variants.{Accepted, Refused}
-use Rattle.refusals.proofs.Legal.{word-numbers, allowed-numbers, coder-numbers}
+use Rattle.refusals.proofs.Legal.{word-numbers, allowed-numbers, decode-numbers, coder-numbers}
 use Rattle.refusals.proofs.Orders.{Begins, first-stops, first-passes, first-accepts}
 
 -- Parameters are refused by 1 to 8, by 11 and by 14, so by neither 0, which is accepted, nor 9 nor 10, which are not about parameters.
@@ -58,6 +59,15 @@ after-allowance e i q s n f g = first-passes (allowedParameters e i q s) n (allo
 
 pub allowed-words : (e i q s : ℕ) → FirstOf (allowedParameters e i q s) 0 → FirstOf (wordParameters e i q) 0
 allowed-words e i q s f = first-accepts (FirstOf (allowance e s ∷ []) 0) (wordParameters e i q) (word-numbers e i q) f
+
+-- So with all that decode checks before it decodes.
+pub after-decode : {rest : Type 0} (e i q s block frame n : ℕ) → FirstOf (decodeParameters e i q s block frame) 0 → rest → Begins (decodeParameters e i q s block frame) n rest
+after-decode e i q s block frame n f g =
+    first-passes (decodeParameters e i q s block frame) n (decode-numbers e i q s block frame) f g
+
+pub decoded-words : (e i q s block frame : ℕ) → FirstOf (decodeParameters e i q s block frame) 0 → FirstOf (wordParameters e i q) 0
+decoded-words e i q s block frame f =
+    first-accepts (FirstOf (allowance e s ∷ input block (blockLength i q) ∷ output frame (frameLength e i q) ∷ []) 0) (wordParameters e i q) (word-numbers e i q) f
 
 -- So with check 7.
 pub after-coder : {rest : Type 0} (r bits at held n : ℕ) → FirstOf (coderParameters r bits at held) 0 → rest → Begins (coderParameters r bits at held) n rest

@@ -1,5 +1,5 @@
--- The twelve checks, and the order in which each of the twelve calls makes them (document 01, "Refusal numbers and the order of checks"; document 02,
--- (ii), (iii) and (vi)).
+-- The twelve checks, and the order in which each of the thirteen calls makes them (document 01, "Refusal numbers and the order of checks"; document 02,
+-- (ii), (iii), (vi) and (vii)).
 use mathlib.Core.Path.{_≡_}
 use mathlib.Core.Bool.{Bool, true}
 use mathlib.Core.Logic.{_≢_, _⊎_}
@@ -85,6 +85,10 @@ decodeParameters e i q s block frame =
 
 abbrev pub decodeOrder : ℕ → ℕ → ℕ → ℕ → ℕ → ℕ → Type 0 → List Check
 decodeOrder e i q s block frame uncorrectable = decodeParameters e i q s block frame ++ (word uncorrectable ∷ [])
+
+-- Salvage checks as decode does before it decodes, then its list: four octets for each octet of the block.
+abbrev pub salvageOrder : ℕ → ℕ → ℕ → ℕ → ℕ → ℕ → ℕ → List Check
+salvageOrder e i q s block frame list = decodeParameters e i q s block frame ++ (output list (4 * blockLength i q) ∷ [])
 
 abbrev pub randomiseOrder : ℕ → List Check
 randomiseOrder block = inputOver 2040 block ∷ []

@@ -86,7 +86,7 @@ pub(crate) fn frame_length(e: u32, depth: u32, fill: u32) -> usize
     interleaved(255 - 2 * e - fill, depth)
 }
 
-fn block_length(e: u32, depth: u32, fill: u32) -> usize
+pub(crate) fn block_length(e: u32, depth: u32, fill: u32) -> usize
     requires { ⌜ FirstOf (wordParameters e depth fill) 0 ⌝ }
     ensures { λ r. ⌜ (r ≡ blockLength depth fill) × (r ≤ 2040) ⌝ }
 {

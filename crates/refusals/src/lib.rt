@@ -4,6 +4,7 @@ mod coder;
 mod likeliest;
 mod numbers;
 mod portions;
+mod salvage;
 
 pub use checks::decode_parameters;
 pub use checks::encode_parameters;
@@ -21,6 +22,7 @@ pub use numbers::parameter_number;
 pub use numbers::verdict_number;
 pub use portions::close_parameters;
 pub use portions::portion_parameters;
+pub use salvage::salvage_parameters;
 
 // A parameter or a length that is not legal, or a frame in portions that a call would pass, finds unfinished, or finds closed.
 pub enum Parameter {

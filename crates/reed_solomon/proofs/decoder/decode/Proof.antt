@@ -71,7 +71,8 @@ repair-words-requires : tie.Need-repair-words-requires
 repair-words-requires c κs =
     let passing = legal (c .before .before .before .before) in
     let start = c .before .before .before .before .before .before .before .before .before in (
-      fitting _ _ _ _ _ _ (length (start .args .frame .now)) refl passing,
+      fitting _ _ _ _ _ (length (start .args .frame .now)) passing,
+      omega arith,
       checks-of-words _ _ _ _ _ (start .args .frame .now) _ passing (search octets-known) (c .before .before .before .front-rows .ensures),
     )
 

@@ -6,29 +6,31 @@ use native.Mathlib.Omega.{arith}
 use lib.ListN.{length}
 use borrow.Author.Tests.{not-true, not-false}
 use Rattle.refusals.proofs.Legal.{strength-bounds}
-use Rattle.reed_solomon.specs.DecoderWorking.{Fitting, Sofar}
-use Rattle.reed_solomon.proofs.WordRepairs.{still-fits, sofar-starts, sofar-stops, sofar-turn, few-differ}
+use Rattle.reed_solomon.specs.DecoderWorking.{Sofar}
+use Rattle.reed_solomon.proofs.WordRepairs.{sofar-starts, sofar-stops, sofar-turn, few-differ}
 use Rattle.reed_solomon.proofs.decoder.repair_words.Statement.{statement}
 use Rattle.reed_solomon.proofs.decoder.repair_words.Tie as tie
 
 abbrev Inv-loop : tie.InvT-loop
 Inv-loop e depth fill s block frame₀ rows counts₀ total₀ w₀ frame counts total w =
-    (w ≤ depth) × (length frame ≡ length frame₀) × Sofar e depth fill s block frame counts total w × (total ≤ 16 * w) × Fitting e depth fill s block frame
+    (w ≤ depth) × (length frame ≡ length frame₀) × Sofar e depth fill s block frame counts total w × (total ≤ 16 * w)
 
 abbrev μ-loop : tie.MeasureT-loop
 μ-loop e depth fill s block frame₀ rows counts₀ total₀ w₀ frame counts total w = depth - w
 
 loop-holds : tie.Need-loop-holds Inv-loop μ-loop
-loop-holds c = (omega arith, refl, sofar-starts _ _ _ _ _ _, omega arith, c .before .before .pre .0)
+loop-holds c = (omega arith, refl, sofar-starts _ _ _ _ _ _, omega arith)
 
 mul-row : tie.Need-mul-row Inv-loop μ-loop
 mul-row c = search needs
 
 array-copy-out-row : tie.Need-array-copy-out-row Inv-loop μ-loop
-array-copy-out-row c = omega (arith, c .before .loop .inv .4 .deep)
+array-copy-out-row c = omega (arith, c .before .before .before .before .pre .0 .deep)
 
 repair-word-requires : tie.Need-repair-word-requires Inv-loop μ-loop
-repair-word-requires c κs = (c .before .before .before .loop .inv .4, omega arith, c .before .before .before .before .before .before .pre .1 (c .before .before .before .loop .w) (omega arith))
+repair-word-requires c κs =
+    let start = c .before .before .before .before .before .before in
+    (start .pre .0, omega (arith, start .pre .1), omega arith, start .pre .2 (c .before .before .before .loop .w) (omega arith))
 
 same-length : tie.Need-same-length Inv-loop μ-loop
 same-length c = c .before .before .before .repair-word .ensures .size ∙ c .before .before .before .before .before .before .before .loop .inv .1
@@ -54,18 +56,18 @@ few c =
     omega (
       arith,
       few-differ (start .args .e) (start .args .depth) (start .args .fill) (start .args .s) (start .args .block .now) (at .w) _ (word .result .count) (word .ensures .whenFound (not-false _ (c .if1 .left))),
-      at .inv .4 .allowance,
-      strength-bounds _ (at .inv .4 .strength) .1,
+      start .pre .0 .allowance,
+      strength-bounds _ (start .pre .0 .strength) .1,
     )
 
 cast-counts : tie.Need-cast-counts Inv-loop μ-loop
 cast-counts c = omega (arith, few c)
 
 array-write-counts : tie.Need-array-write-counts Inv-loop μ-loop
-array-write-counts c = omega (arith, c .before .before .before .before .before .before .before .loop .inv .4 .deep)
+array-write-counts c = omega (arith, c .before .before .before .before .before .before .before .before .before .before .pre .0 .deep)
 
 add-total : tie.Need-add-total Inv-loop μ-loop
-add-total c = omega (arith, few c, c .before .before .before .before .before .before .before .loop .inv .4 .deep)
+add-total c = omega (arith, few c, c .before .before .before .before .before .before .before .before .before .before .pre .0 .deep)
 
 add-w : tie.Need-add-w Inv-loop μ-loop
 add-w c = search needs
@@ -80,9 +82,8 @@ loop-again c =
     let word = c .before .before .before .repair-word in (
       omega arith,
       word .ensures .size ∙ at .inv .1,
-      sofar-turn (start .args .e) (start .args .depth) (start .args .fill) (start .args .s) (start .args .block .now) (at .frame) (at .counts) (at .total) (at .w) (word .result .found) (word .result .count) _ (omega arith) (at .inv .2) (word .ensures) (at .inv .4 .deep) (not-false _ (c .if1 .left)),
+      sofar-turn (start .args .e) (start .args .depth) (start .args .fill) (start .args .s) (start .args .block .now) (at .frame) (at .counts) (at .total) (at .w) (word .result .found) (word .result .count) _ (omega arith) (at .inv .2) (word .ensures) (start .pre .0 .deep) (not-false _ (c .if1 .left)),
       omega (arith, few c),
-      still-fits _ _ _ _ _ _ _ (word .ensures .size) (at .inv .4),
     )
 
 same-length-2 : tie.Need-same-length-2 Inv-loop μ-loop
