@@ -17,11 +17,11 @@ use Rattle.marker.specs.declared.Form.the-variants.{True}
 use Rattle.marker.specs.Place.{wrongBits, formAt}
 use Rattle.marker.proofs.Forms.{form-that-fits, form-fits}
 use Rattle.randomiser.proofs.Theorems.{added-alike}
-use Rattle.reed_solomon.specs.Blocks.{wordOf, sum}
-use Rattle.reed_solomon.specs.Bursts.{burstSymbols, burstBits, SymbolBurst, BitBurst, Corrected}
-use Rattle.reed_solomon.proofs.Interleaving.{words-alike}
-use Rattle.reed_solomon.proofs.CodedBlocks.{EncodeLegal, outcome-legal, coded-octets}
-use Rattle.reed_solomon.proofs.Bursts.{word-differs, bits-in-symbols, corrected}
+use Rattle.encoding.specs.Blocks.{wordOf, sum}
+use Rattle.bursts.specs.Bursts.{burstSymbols, burstBits, SymbolBurst, BitBurst, Corrected}
+use Rattle.encoding.proofs.Interleaving.{words-alike}
+use Rattle.encoding.proofs.CodedBlocks.{EncodeLegal, outcome-legal, coded-octets}
+use Rattle.bursts.proofs.Bursts.{word-differs, bits-in-symbols, corrected}
 use Rattle.chain.specs.declared.Received.{Received}
 use Rattle.chain.specs.declared.Received.the-variants.{Delivered}
 use Rattle.chain.specs.Outcome.{randomisedIf, opened, blockIn, Transmitted, TransmitOutcome, ReceiveOutcome}

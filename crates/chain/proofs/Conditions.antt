@@ -1,4 +1,4 @@
--- The conditions of acceptance for the whole: what receive makes of a transmitted block, and condition 1 of all twelve calls.
+-- The conditions of acceptance for the whole: what receive makes of a transmitted block, and condition 1 of all thirteen calls.
 use mathlib.Core.Path.{_≡_, refl, sym, ap, ap₂, _∙_, subst}
 use mathlib.Core.Bool.{Bool, true, false, not}
 use mathlib.Core.Logic.{_≢_}
@@ -10,7 +10,7 @@ use lib.ListN.{length, drop, getD, replicate, length-drop, length-replicate, get
 use lib.Seq.{take-at, ext-getD}
 use Rattle.refusals.specs.Order.{Check, FirstOf}
 use Rattle.refusals.specs.Numbers.{verdictNumber}
-use Rattle.refusals.specs.Calls.{encodeOrder, portionOrder, closeOrder, decodeOrder, randomiseOrder, convolveOrder, coderCloseOrder, likeliestOrder, markerOrder, searchOrder, transmitOrder, receiveParameters, receiveOrder}
+use Rattle.refusals.specs.Calls.{encodeOrder, portionOrder, closeOrder, decodeOrder, salvageOrder, randomiseOrder, convolveOrder, coderCloseOrder, likeliestOrder, markerOrder, searchOrder, transmitOrder, receiveParameters, receiveOrder}
 use Rattle.refusals.specs.declared.Verdict.{Verdict}
 use Rattle.refusals.specs.declared.Verdict.the-variants.{Accepted}
 use Rattle.refusals.proofs.Orders.{Clear, clear-accepted}
@@ -33,11 +33,13 @@ use Rattle.viterbi.specs.Outcome.{soughtNumber, LikeliestOutcome}
 use Rattle.viterbi.specs.declared.Sought.{Sought}
 use Rattle.reed_solomon.specs.declared.Decoded.{Decoded}
 use Rattle.reed_solomon.specs.declared.Decoded.the-variants as decoded
-use Rattle.reed_solomon.specs.Blocks.{wordOf, sentFrom, sum}
-use Rattle.reed_solomon.specs.declared.Progress.{Progress}
-use Rattle.reed_solomon.specs.Portions.{PortionOutcome, CloseOutcome}
-use Rattle.reed_solomon.specs.Outcome.{EncodeOutcome, Delivery, DecodeOutcome, decodedNumber}
-use Rattle.reed_solomon.proofs.CodedBlocks.{outcome-legal, coded-octets}
+use Rattle.encoding.specs.Blocks.{wordOf, sentFrom, sum}
+use Rattle.frame_portions.specs.declared.Progress.{Progress}
+use Rattle.frame_portions.specs.Portions.{PortionOutcome, CloseOutcome}
+use Rattle.encoding.specs.Outcome.{EncodeOutcome}
+use Rattle.reed_solomon.specs.Outcome.{Delivery, DecodeOutcome, decodedNumber}
+use Rattle.reed_solomon.specs.Salvaging.{SalvageOutcome}
+use Rattle.encoding.proofs.CodedBlocks.{outcome-legal, coded-octets}
 use Rattle.reed_solomon.proofs.Deliverable.{SomeLost, Passed, Order, all-found}
 use Rattle.reed_solomon.proofs.Conditions.{condition-two, condition-three-exactly-if}
 use Rattle.chain.specs.declared.Received.{Received}
@@ -231,7 +233,7 @@ module _ (e i q : ℕ) (flag : Bool) (frame before : List ℕ) (v : Verdict) (ma
 abbrev pub FirstAndKept : List Check → ℕ → Type 0 → Type 0
 FirstAndKept order number kept = FirstOf order number × (number ≢ 0 → kept)
 
--- The twelve calls; the marker test and the search are lent their octets to be read only, and so have nothing to keep.
+-- The thirteen calls; the marker test and the search are lent their octets to be read only, and so have nothing to keep.
 pub record ConditionOne : Type 0 where
   pub encode : (e i q : ℕ) (frame before : List ℕ) (answer : Verdict) (after : List ℕ) → EncodeOutcome e i q frame before answer after
       → FirstAndKept (encodeOrder e i q (length frame) (length before)) (verdictNumber answer) (after ≡ before)
@@ -243,6 +245,9 @@ pub record ConditionOne : Type 0 where
   pub decode : (e i q s : ℕ) (block before : List ℕ) (answer : Decoded) (counts : List ℕ) (total : ℕ) (after : List ℕ)
       → DecodeOutcome e i q s block before answer counts total after
       → FirstAndKept (decodeOrder e i q s (length block) (length before) (SomeLost e i q s block)) (decodedNumber answer) (after ≡ before)
+  pub salvage : (e i q s : ℕ) (block before listed : List ℕ) (answer : Verdict) (marks counts : List ℕ) (entries : ℕ) (frame list : List ℕ)
+      → SalvageOutcome e i q s block before listed answer marks counts entries frame list
+      → FirstAndKept (salvageOrder e i q s (length block) (length before) (length listed)) (verdictNumber answer) ((frame ≡ before) × (list ≡ listed))
   pub randomise : (before : List ℕ) (answer : Verdict) (after : List ℕ) → RandomiseOutcome before answer after
       → FirstAndKept (randomiseOrder (length before)) (verdictNumber answer) (after ≡ before)
   pub convolve : (rate : ℕ) (state : State) (octets before : List ℕ) (ran : Ran) (after : List ℕ) → coder.ConvolveOutcome rate state octets before ran after
@@ -269,6 +274,7 @@ condition-one =
       portion = λ e i q state portion before answer next after O. (O .number, O .refused);
       close = λ e i q state before answer next after O. (O .number, O .refused);
       decode = λ e i q s block before answer counts total after O. (O .number, λ n. O .refused n .0);
+      salvage = λ e i q s block before listed answer marks counts entries frame list O. (O .number, λ n. (O .refused n .0, O .refused n .1));
       randomise = λ before answer after O. (O .number, O .refused);
       convolve = λ rate state octets before ran after O. (O .number, O .refused);
       coderClose = λ rate state before answer after O. (O .number, O .refused);

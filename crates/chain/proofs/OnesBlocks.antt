@@ -20,10 +20,10 @@ use Rattle.marker.specs.declared.Form.the-variants.{True, Complement}
 use Rattle.marker.specs.Place.{marker}
 use Rattle.randomiser.specs.Sequence.{sequenceOctet, addedFrom, randomised}
 use Rattle.randomiser.proofs.Registers.{octet-small}
-use Rattle.reed_solomon.specs.Blocks.{wordOf}
-use Rattle.reed_solomon.specs.Outcome.{Coded}
-use Rattle.reed_solomon.proofs.Interleaving.{place-below, sent-length, sent-at, sent-is}
-use Rattle.reed_solomon.proofs.CodedBlocks.{EncodeLegal, coded-octets}
+use Rattle.encoding.specs.Blocks.{wordOf}
+use Rattle.encoding.specs.Outcome.{Coded}
+use Rattle.encoding.proofs.Interleaving.{place-below, sent-length, sent-at, sent-is}
+use Rattle.encoding.proofs.CodedBlocks.{EncodeLegal, coded-octets}
 use Rattle.chain.specs.declared.Received.{Received}
 use Rattle.chain.specs.declared.Received.the-variants.{Delivered}
 use Rattle.chain.specs.Outcome.{randomisedIf, invertedIf, complemented, Transmitted, TransmitOutcome, ReceiveOutcome}

@@ -23,7 +23,7 @@ use Rattle.refusals.specs.declared.WordRefusal.{WordRefusal}
 use Rattle.refusals.specs.declared.WordRefusal.the-variants as lost
 use Rattle.refusals.proofs.Orders.{Begins, Clear, Numbered, accepted-clear, clear-accepted, not-different, first-unique, first-passes}
 use Rattle.refusals.proofs.Verdicts.{parameter-nonzero, parameter-not-nine, parameter-not-ten, same-verdict, passed, stopped}
-use Rattle.refusals.proofs.Legal.{LegalWords, legal-words}
+use Rattle.refusals.proofs.Legal.{LegalWords, legal-words, decode-numbers}
 use Rattle.marker.specs.declared.Form.{Form}
 use Rattle.marker.specs.Place.{formAt, fewestWrong}
 use Rattle.marker.specs.Outcome.{testedNumber, TestOutcome}
@@ -33,7 +33,6 @@ use Rattle.reed_solomon.specs.declared.Decoded.{Decoded}
 use Rattle.reed_solomon.specs.declared.Decoded.the-variants as decoded
 use Rattle.reed_solomon.specs.Outcome.{DecodeOutcome, decodedNumber}
 use Rattle.reed_solomon.proofs.Deliverable.{SomeLost, Order, delivered-is}
-use Rattle.reed_solomon.proofs.Deliveries.{decode-numbers}
 use Rattle.chain.specs.declared.Stage.the-variants.{Parameters, Marker, Word}
 use Rattle.chain.specs.declared.Received.{Received}
 use Rattle.chain.specs.declared.Received.the-variants.{Delivered, Refused}

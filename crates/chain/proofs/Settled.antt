@@ -17,8 +17,8 @@ use Rattle.refusals.proofs.Orders.{first-unique}
 use Rattle.refusals.proofs.Verdicts.{parameter-not-nine, parameter-not-ten}
 use Rattle.refusals.proofs.Settled.{parameter-known, transmit-parameters-settled}
 use Rattle.marker.specs.Place.{marker, formAt, fewestWrong}
-use Rattle.reed_solomon.proofs.CodedBlocks.{EncodeLegal, encode-legal}
-use Rattle.reed_solomon.proofs.Settled.{coded-unique}
+use Rattle.encoding.proofs.CodedBlocks.{EncodeLegal, encode-legal}
+use Rattle.encoding.proofs.Settled.{coded-unique}
 use Rattle.reed_solomon.proofs.Deliverable.{SomeLost}
 use Rattle.reed_solomon.proofs.DecodeSettled.{decode-settled}
 use Rattle.chain.specs.declared.Stage.the-variants.{Parameters, Marker, Word}

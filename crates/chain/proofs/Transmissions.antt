@@ -21,8 +21,8 @@ use Rattle.refusals.proofs.Orders.{Clear, accepted-clear, clear-accepted, not-d
 use Rattle.refusals.proofs.Verdicts.{parameter-nonzero, same-verdict, passed}
 use Rattle.refusals.proofs.Legal.{LegalWords, legal-words}
 use Rattle.marker.specs.Place.{marker}
-use Rattle.reed_solomon.specs.Outcome.{EncodeOutcome}
-use Rattle.reed_solomon.proofs.CodedBlocks.{EncodeLegal, encode-legal}
+use Rattle.encoding.specs.Outcome.{EncodeOutcome}
+use Rattle.encoding.proofs.CodedBlocks.{EncodeLegal, encode-legal}
 use Rattle.chain.specs.Outcome.{randomisedIf, TransmitOutcome}
 use Rattle.chain.proofs.Opening.{randomised-length}
 

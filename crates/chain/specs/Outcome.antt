@@ -18,7 +18,8 @@ use Rattle.marker.specs.Place.{marker, formAt, fewestWrong}
 use Rattle.randomiser.specs.Sequence.{randomised}
 use Rattle.reed_solomon.specs.declared.Decoded.{Decoded}
 use Rattle.reed_solomon.specs.declared.Decoded.the-variants as decoded
-use Rattle.reed_solomon.specs.Outcome.{Coded, Lost, DecodeOutcome}
+use Rattle.encoding.specs.Outcome.{Coded}
+use Rattle.reed_solomon.specs.Outcome.{Lost, DecodeOutcome}
 use Rattle.chain.specs.declared.Stage.the-variants.{Parameters, Marker, Word}
 use Rattle.chain.specs.declared.Received.{Received}
 use Rattle.chain.specs.declared.Received.the-variants.{Delivered, Refused}

@@ -21,7 +21,7 @@ pub fn transmit(
     if let Verdict::Refused(p) = verdict {
         return Verdict::Refused(p);
     }
-    let coded = reed_solomon::encode(e, depth, fill, frame, &mut marked[4..]);
+    let coded = encoding::encode(e, depth, fill, frame, &mut marked[4..]);
     // Never so: encode's checks are among those that have passed.
     if let Verdict::Refused(p) = coded {
         return Verdict::Refused(p);

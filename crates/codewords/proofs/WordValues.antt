@@ -86,6 +86,11 @@ octet-at [] o k = omega arith
 octet-at (c ∷ word) o zero = o .0
 octet-at (c ∷ word) o (suc k) = octet-at word (o .1) k
 
+-- and so they are known, as those of a slice
+pub octets-of : (word : List ℕ) → ((k : ℕ) → getD word k 0 < 256) → Octets word
+octets-of [] h = tt
+octets-of (c ∷ word) h = (h 0, octets-of word (λ k. h (suc k)))
+
 pub changed-octets : (change : ℕ → ℕ) → ((n : ℕ) → change n < 256) → (n : ℕ) (word : List ℕ) → Octets word → Octets (changedFrom change n word)
 unfolding changedFrom
 changed-octets change small n [] o = tt

@@ -12,7 +12,7 @@ fn code(e: u32, depth: u32, fill: u32) {
 pub(crate) fn encode(e: u32, depth: u32, fill: u32, frame: &[u8], block: &mut [u8]) {
     print::text(b"encode");
     code(e, depth, fill);
-    let verdict = reed_solomon::encode(e, depth, fill, frame, &mut *block);
+    let verdict = encoding::encode(e, depth, fill, frame, &mut *block);
     print::number(refusals::verdict_number(verdict));
     print::buffer(block);
     print::end();

@@ -28,12 +28,13 @@ use Rattle.codewords.proofs.ZeroWords.{zeroWord, zero-good}
 use Rattle.words.proofs.Arrays.{zero-at}
 use Rattle.reed_solomon.specs.declared.Decoded.{Decoded}
 use Rattle.reed_solomon.specs.declared.Decoded.the-variants.{Delivered, Refused}
-use Rattle.reed_solomon.specs.Blocks.{sentFrom, wordOf, sum}
-use Rattle.reed_solomon.specs.Outcome.{EncodeOutcome, Delivery, Lost, DecodeOutcome}
-use Rattle.reed_solomon.proofs.Settled.{encode-settled}
+use Rattle.encoding.specs.Blocks.{sentFrom, wordOf, sum}
+use Rattle.encoding.specs.Outcome.{EncodeOutcome}
+use Rattle.reed_solomon.specs.Outcome.{Delivery, Lost, DecodeOutcome}
+use Rattle.encoding.proofs.Settled.{encode-settled}
 use Rattle.reed_solomon.proofs.DecodeSettled.{decode-settled}
 use Rattle.reed_solomon.proofs.Deliverable.{Passed, all-found, some-lost}
-use Rattle.reed_solomon.proofs.ZeroBlocks.{zeros-encoded}
+use Rattle.bursts.proofs.ZeroBlocks.{zeros-encoded}
 use Rattle.examples.specs.Table.{Convolves, Encodes, Decodes, AllHold, zeroBlock, changedBlock, cases}
 
 -- ---- (G) to (I)

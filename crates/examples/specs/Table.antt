@@ -17,7 +17,8 @@ use Rattle.refusals.specs.declared.Verdict.the-variants.{Accepted}
 use Rattle.refusals.specs.declared.WordRefusal.the-variants.{NoCodeword}
 use Rattle.reed_solomon.specs.declared.Decoded.{Decoded}
 use Rattle.reed_solomon.specs.declared.Decoded.the-variants.{Delivered, Refused}
-use Rattle.reed_solomon.specs.Outcome.{EncodeOutcome, DecodeOutcome}
+use Rattle.encoding.specs.Outcome.{EncodeOutcome}
+use Rattle.reed_solomon.specs.Outcome.{DecodeOutcome}
 
 -- A worked case, by its kind: what is given, then what comes of it.
 pub data Example : Type 0 where

@@ -6,8 +6,10 @@ use mathlib.Core.List.{List, [], _∷_, _++_}
 use Prim.Native.Nat.{ℕ}
 use native.Mathlib.Omega.{arith}
 use lib.ListN.{length, getD}
-use Rattle.refusals.specs.Numbers.{parameterNumber, markerNumber, markerValue, wordNumber, wordValue}
+use Rattle.refusals.specs.Numbers.{parameterNumber, verdictNumber, markerNumber, markerValue, wordNumber, wordValue}
 use Rattle.refusals.specs.declared.Parameter.{Parameter}
+use Rattle.refusals.specs.declared.Verdict.{Verdict}
+use Rattle.refusals.specs.declared.Verdict.the-variants as verdict
 use Rattle.refusals.specs.declared.MarkerRefusal.{MarkerRefusal}
 use Rattle.refusals.specs.declared.MarkerRefusal.the-variants as marker
 use Rattle.refusals.specs.declared.WordRefusal.{WordRefusal}
@@ -16,7 +18,8 @@ use Rattle.refusals.proofs.Verdicts.{parameter-nonzero}
 use Rattle.reed_solomon.specs.declared.Decoded.{Decoded}
 use Rattle.reed_solomon.specs.declared.Decoded.the-variants as decoded
 use Rattle.reed_solomon.specs.Outcome.{DecodeOutcome, decodedNumber, decodedValue}
-use Rattle.reed_solomon.proofs.Eight.{eight}
+use Rattle.reed_solomon.specs.Salvaging.{SalvageOutcome}
+use Rattle.frame_portions.proofs.Eight.{eight}
 use Rattle.marker.specs.declared.Form.{Form}
 use Rattle.marker.specs.declared.Tested.{Tested}
 use Rattle.marker.specs.declared.Tested.the-variants as tested
@@ -31,7 +34,7 @@ use Rattle.chain.specs.declared.Stage.the-variants as stage
 use Rattle.chain.specs.declared.Received.{Received}
 use Rattle.chain.specs.declared.Received.the-variants as received
 use Rattle.chain.specs.Outcome.{ReceiveOutcome, receivedNumber, receivedValue}
-use Rattle.ironsimmer.specs.Exported.{code, truth, formNumber, decodeListed, receiveListed, testReport, searchReport, soughtReport, Lent, DecodingCall, DecodeCall, MarkerCall, LikeliestCall, Reported}
+use Rattle.ironsimmer.specs.Exported.{code, truth, formNumber, decodeListed, receiveListed, salvageListed, testReport, searchReport, soughtReport, Lent, DecodingCall, DecodeCall, SalvageCall, MarkerCall, LikeliestCall, Reported}
 
 -- ---- one number for an answer
 
@@ -174,6 +177,24 @@ module _ (e i q s t : ℕ) (flag : Bool) (marked before reported counts : List �
         decoding-refused receivedNumber receivedValue receiveListed ReceivePermits reported (counts, total, turned) after answer o n
         (λ z. stage-nonzero stage (ap receivedNumber (sym known) ∙ z)) (known-answer (λ (a : Received). code (receivedNumber a) (receivedValue a)) known c)
 
+module _ (e i q s : ℕ) (block before listed reported marks counts : List ℕ) (entries : ℕ) (frame list : List ℕ) {answer : Verdict}
+    (o : SalvageOutcome e i q s block before listed answer marks counts entries frame list) where
+  salvage-told : (n : ℕ) (report : List ℕ) → n ≡ verdictNumber answer → Lent (verdictNumber answer) (salvageListed marks counts entries) reported report
+      → SalvageCall e i q s block before listed reported n frame list report
+  salvage-told n report coded lent =
+      record { verdict = answer; marks = marks; counts = counts; entries = entries; outcome = o; coded = coded; lent = lent }
+
+  pub salvage-accepted : (report : List ℕ) → answer ≡ verdict.Accepted → report ≡ salvageListed marks counts entries
+      → SalvageCall e i q s block before listed reported 0 frame list report
+  salvage-accepted report known is =
+      salvage-told 0 report (ap verdictNumber (sym known)) (lent-accepted (verdictNumber answer) (salvageListed marks counts entries) reported report (ap verdictNumber known) is)
+
+  pub salvage-refused : (p : Parameter) (n : ℕ) → answer ≡ verdict.Refused p → n ≡ parameterNumber p
+      → SalvageCall e i q s block before listed reported n frame list reported
+  salvage-refused p n known c =
+      salvage-told n reported (known-answer verdictNumber known c)
+      (lent-refused (verdictNumber answer) (salvageListed marks counts entries) reported (λ z. parameter-nonzero p (ap verdictNumber (sym known) ∙ z)))
+
 -- ---- the search's report
 
 module _ (before : List ℕ) {answer : Searched} where
@@ -194,7 +215,7 @@ pub found-report : (place wrong looked number : ℕ) (form : Form) → number �
     → 1 ∷ place ∷ wrong ∷ looked ∷ number ∷ [] ≡ searchReport (searched.Found place form wrong looked)
 found-report place wrong looked number form is = ap {B = List ℕ} (λ (n : ℕ). 1 ∷ place ∷ wrong ∷ looked ∷ n ∷ []) is
 
--- ---- the report of decode and receive
+-- ---- the reports of decode, receive and salvage
 
 -- Eight counts, each by its place, and what follows them.
 pub eight-then : (counts rest : List ℕ) → length counts ≡ 8

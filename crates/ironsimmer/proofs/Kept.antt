@@ -12,7 +12,7 @@ use Rattle.chain.specs.declared.Received.the-variants as received
 use Rattle.chain.specs.Outcome.{receivedNumber, receivedValue}
 use Rattle.convolution.specs.Outcome.{convolvedNumber}
 use Rattle.viterbi.specs.Outcome.{soughtNumber}
-use Rattle.ironsimmer.specs.Exported.{code, EncodeCall, PortionCall, CloseCall, RandomiseCall, TransmitCall, DecodeCall, ReceiveCall, MarkerCall, SearchCall, ConvolveCall, ConvolveCloseCall, LikeliestCall}
+use Rattle.ironsimmer.specs.Exported.{code, EncodeCall, PortionCall, CloseCall, RandomiseCall, TransmitCall, DecodeCall, ReceiveCall, SalvageCall, MarkerCall, SearchCall, ConvolveCall, ConvolveCloseCall, LikeliestCall}
 use Rattle.ironsimmer.proofs.Answers.{word-nonzero, stage-nonzero}
 
 -- An answer other than 0 is one of a refusal.
@@ -24,7 +24,7 @@ received-refused : (a : Received) → code (receivedNumber a) (receivedValue a) 
 received-refused received.Delivered n = n
 received-refused (received.Refused s) n = stage-nonzero s
 
--- The twelve calls that can refuse: an answer other than 0 leaves every buffer, count, report and state as it was.
+-- The thirteen calls that can refuse: an answer other than 0 leaves every buffer, count, report and state as it was.
 pub record KeptOnARefusal : Type 0 where
   pub encode : (e i q : ℕ) (frame before : List ℕ) (answer : ℕ) (after : List ℕ) → EncodeCall e i q frame before answer after → answer ≢ 0 → after ≡ before
   pub portion : (e i q : ℕ) (numbers : List ℕ) (rows : List (List ℕ)) (portion before : List ℕ) (answer : ℕ) (numbers′ : List ℕ) (rows′ : List (List ℕ)) (after : List ℕ)
@@ -33,6 +33,8 @@ pub record KeptOnARefusal : Type 0 where
       → CloseCall e i q numbers rows before answer numbers′ rows′ after → answer ≢ 0 → (numbers′ ≡ numbers) × (rows′ ≡ rows) × (after ≡ before)
   pub decode : (e i q s : ℕ) (block before reported : List ℕ) (answer : ℕ) (after report : List ℕ) → DecodeCall e i q s block before reported answer after report
       → answer ≢ 0 → (after ≡ before) × (report ≡ reported)
+  pub salvage : (e i q s : ℕ) (block before listed reported : List ℕ) (answer : ℕ) (frame list report : List ℕ)
+      → SalvageCall e i q s block before listed reported answer frame list report → answer ≢ 0 → (frame ≡ before) × (list ≡ listed) × (report ≡ reported)
   pub randomise : (before : List ℕ) (answer : ℕ) (after : List ℕ) → RandomiseCall before answer after → answer ≢ 0 → after ≡ before
   pub marker : (tolerance : ℕ) (octets before : List ℕ) (answer : ℕ) (after : List ℕ) → MarkerCall tolerance octets before answer after → answer ≢ 0 → after ≡ before
   pub search : (tolerance : ℕ) (stream : List ℕ) (start budget : ℕ) (before : List ℕ) (answer : ℕ) (after : List ℕ)
@@ -58,6 +60,8 @@ kept-on-a-refusal =
           let refuses : verdictNumber (C .verdict) ≢ 0 = λ z. n (C .put .coded ∙ z) in (C .put .told .refused refuses, C .put .held .refused refuses, C .outcome .refused refuses .1);
       decode = λ e i q s block before reported answer after report C n.
           let refuses : decodedNumber (C .answered) ≢ 0 = decoded-refused (C .answered) (λ z. n (C .coded ∙ z)) in (C .outcome .refused refuses .0, C .lent .refused refuses);
+      salvage = λ e i q s block before listed reported answer frame list report C n.
+          let refuses : verdictNumber (C .verdict) ≢ 0 = λ z. n (C .coded ∙ z) in (C .outcome .refused refuses .0, C .outcome .refused refuses .1, C .lent .refused refuses);
       randomise = λ before answer after C n. C .outcome .refused (λ z. n (C .coded ∙ z));
       marker = λ tolerance octets before answer after C n. C .lent .refused (λ z. n (C .accepted z));
       search = λ tolerance stream start budget before answer after C n. C .reported .lent .refused (λ z. n (C .reported .coded ∙ z));

@@ -6,12 +6,14 @@ use Prim.Native.Nat.{ℕ}
 use native.Mathlib.Decide.{ℕ-discrete}
 use Rattle.refusals.specs.Numbers.{verdictNumber}
 use Rattle.refusals.specs.declared.Verdict.{Verdict}
-use Rattle.reed_solomon.specs.Outcome.{EncodeOutcome, decodedNumber, decodedValue}
-use Rattle.reed_solomon.specs.declared.Progress.{Progress}
-use Rattle.reed_solomon.specs.Portions.{octetRows, PortionOutcome, CloseOutcome}
-use Rattle.reed_solomon.proofs.Settled.{encode-settled}
-use Rattle.reed_solomon.proofs.Portions.{portion-settled, close-settled}
+use Rattle.encoding.specs.Outcome.{EncodeOutcome}
+use Rattle.reed_solomon.specs.Outcome.{decodedNumber, decodedValue}
+use Rattle.frame_portions.specs.declared.Progress.{Progress}
+use Rattle.frame_portions.specs.Portions.{octetRows, PortionOutcome, CloseOutcome}
+use Rattle.encoding.proofs.Settled.{encode-settled}
+use Rattle.frame_portions.proofs.Portions.{portion-settled, close-settled}
 use Rattle.reed_solomon.proofs.DecodeSettled.{decode-settled}
+use Rattle.reed_solomon.proofs.SalvageSettled.{salvage-settled}
 use Rattle.randomiser.specs.Outcome.{NextOutcome, RandomiseOutcome}
 use Rattle.randomiser.proofs.Settled.{next-bits-settled, randomise-settled}
 use Rattle.marker.specs.Outcome.{testedNumber, testedValue, searchedNumber}
@@ -24,7 +26,7 @@ use Rattle.viterbi.specs.Outcome.{soughtNumber}
 use Rattle.viterbi.proofs.Settled.{likeliest-settled}
 use Rattle.chain.specs.Outcome.{TransmitOutcome, receivedNumber, receivedValue}
 use Rattle.chain.proofs.Settled.{transmit-settled, receive-settled}
-use Rattle.ironsimmer.specs.Exported.{code, flag, truth, Lent, testReport, searchReport, soughtReport, stateOf, stateNumbers, coderOf, coderOctets, decodeListed, receiveListed, CountPut, VerdictCall, EncodeCall, PortioningCall, PortionCall, CloseCall, RandomiseCall, TransmitCall, DecodingCall, DecodeCall, ReceiveCall, MarkerCall, SearchCall, ConvolveCall, ConvolveCloseCall, LikeliestCall}
+use Rattle.ironsimmer.specs.Exported.{code, flag, truth, Lent, testReport, searchReport, soughtReport, stateOf, stateNumbers, coderOf, coderOctets, decodeListed, receiveListed, salvageListed, CountPut, VerdictCall, EncodeCall, PortioningCall, PortionCall, CloseCall, RandomiseCall, TransmitCall, DecodingCall, DecodeCall, ReceiveCall, SalvageCall, MarkerCall, SearchCall, ConvolveCall, ConvolveCloseCall, LikeliestCall}
 
 -- ---- one law for each kind of call
 
@@ -110,6 +112,18 @@ module _ (m n : ℕ) (a b : List ℕ) where
       decoding-call-settled receivedNumber receivedValue receiveListed _
       (λ v w c d f g x y. let same = receive-settled e i q s t (flag randomised) marked before v w (c .0) (d .0) (c .1) (d .1) (c .2) (d .2) f g x y in
       (same .0, ap₂ (λ (counts rest : List ℕ). counts ++ rest) (same .1) (ap₂ (λ (total : ℕ) (turned : Bool). total ∷ truth turned ∷ []) (same .2) (same .3)), same .4)) reported m n a b
+
+  pub ironsimmer-salvage-settled : (e i q s : ℕ) (block before listed reported j k r t : List ℕ) → SalvageCall e i q s block before listed reported m a j r
+      → SalvageCall e i q s block before listed reported n b k t → (m ≡ n) × (a ≡ b) × (j ≡ k) × (r ≡ t)
+  ironsimmer-salvage-settled e i q s block before listed reported j k r t x y =
+      let same = salvage-settled e i q s block before listed (x .verdict) (y .verdict) (x .marks) (y .marks) (x .counts) (y .counts) (x .entries) (y .entries) a b j k (x .outcome) (y .outcome) in
+      let told : salvageListed (x .marks) (x .counts) (x .entries) ≡ salvageListed (y .marks) (y .counts) (y .entries) =
+      ap₂ (λ (marks rest : List ℕ). marks ++ rest) (same .1) (ap₂ (λ (counts : List ℕ) (entries : ℕ). counts ++ (entries ∷ [])) (same .2) (same .3)) in (
+        x .coded ∙ ap verdictNumber (same .0) ∙ sym (y .coded),
+        same .4,
+        same .5,
+        lent-settled _ _ _ _ reported r t (ap verdictNumber (same .0)) told (x .lent) (y .lent),
+      )
 
   pub ironsimmer-search-settled : (tolerance : ℕ) (stream : List ℕ) (start budget : ℕ) (before : List ℕ) → SearchCall tolerance stream start budget before m a
       → SearchCall tolerance stream start budget before n b → (m ≡ n) × (a ≡ b)

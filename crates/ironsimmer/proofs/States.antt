@@ -7,9 +7,9 @@ use Rattle.refusals.specs.declared.Parameter.{Parameter}
 use Rattle.refusals.specs.declared.Verdict.{Verdict}
 use Rattle.refusals.specs.declared.Verdict.the-variants.{Accepted, Refused}
 use Rattle.refusals.proofs.Verdicts.{parameter-nonzero}
-use Rattle.reed_solomon.specs.declared.Row.{Row}
-use Rattle.reed_solomon.specs.declared.Progress.{Progress}
-use Rattle.reed_solomon.specs.Portions.{octetRows, heldRows, PortionOutcome, CloseOutcome}
+use Rattle.frame_portions.specs.declared.Row.{Row}
+use Rattle.frame_portions.specs.declared.Progress.{Progress}
+use Rattle.frame_portions.specs.Portions.{octetRows, heldRows, PortionOutcome, CloseOutcome}
 use Rattle.ironsimmer.specs.Exported.{truth, stateOf, stateNumbers, StatePut, PortioningCall, PortionCall, CloseCall}
 use Rattle.ironsimmer.proofs.Answers.{known-answer, lent-refused, lent-accepted}
 

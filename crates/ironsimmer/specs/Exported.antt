@@ -1,5 +1,5 @@
 -- What the exported calls answer and leave, by the outcomes of the calls beneath (document 01, "Refusal numbers and the order of checks"; document 02,
--- (ii), (iii), (v) and (vi)).
+-- (ii), (iii), (v), (vi) and (vii)).
 use mathlib.Core.Path.{_≡_}
 use mathlib.Core.Bool.{Bool, true, false, not}
 use mathlib.Core.Logic.{_≢_}
@@ -9,9 +9,11 @@ use lib.Dec.{eqb}
 use lib.ListN.{getD}
 use Rattle.refusals.specs.Numbers.{verdictNumber}
 use Rattle.refusals.specs.declared.Verdict.{Verdict}
-use Rattle.reed_solomon.specs.Outcome.{EncodeOutcome, DecodeOutcome, decodedNumber, decodedValue}
-use Rattle.reed_solomon.specs.declared.Progress.{Progress}
-use Rattle.reed_solomon.specs.Portions.{octetRows, heldRows, PortionOutcome, CloseOutcome}
+use Rattle.encoding.specs.Outcome.{EncodeOutcome}
+use Rattle.reed_solomon.specs.Outcome.{DecodeOutcome, decodedNumber, decodedValue}
+use Rattle.reed_solomon.specs.Salvaging.{SalvageOutcome}
+use Rattle.frame_portions.specs.declared.Progress.{Progress}
+use Rattle.frame_portions.specs.Portions.{octetRows, heldRows, PortionOutcome, CloseOutcome}
 use Rattle.randomiser.specs.Outcome.{RandomiseOutcome}
 use Rattle.marker.specs.declared.Form.{Form}
 use Rattle.marker.specs.declared.Form.the-variants.{True, Complement}
@@ -118,6 +120,20 @@ DecodeCall e i q s block before reported answer after report =
 abbrev pub ReceiveCall : ℕ → ℕ → ℕ → ℕ → ℕ → ℕ → List ℕ → List ℕ → List ℕ → ℕ → List ℕ → List ℕ → Type 0
 ReceiveCall e i q s t randomised marked before reported answer after report =
     DecodingCall receivedNumber receivedValue receiveListed (λ a r. ReceiveOutcome e i q s t (flag randomised) marked before a (r .0) (r .1) (r .2)) reported answer after report
+
+-- Salvage's report: the marks of eight words, their counts, then the number of entries in the list.
+abbrev pub salvageListed : List ℕ → List ℕ → ℕ → List ℕ
+salvageListed marks counts entries = marks ++ (counts ++ (entries ∷ []))
+
+-- Salvage: the number of a verdict, and frame and list, that the outcome permits with its report, which is put in place.
+pub record SalvageCall (e i q s : ℕ) (block before listed reported : List ℕ) (answer : ℕ) (frame list report : List ℕ) : Type 0 where
+  pub verdict : Verdict
+  pub marks : List ℕ
+  pub counts : List ℕ
+  pub entries : ℕ
+  pub outcome : SalvageOutcome e i q s block before listed verdict marks counts entries frame list
+  pub coded : answer ≡ verdictNumber verdict
+  pub lent : Lent (verdictNumber verdict) (salvageListed marks counts entries) reported report
 
 -- What an accepted marker test reports: the form, and its wrong bits.
 abbrev pub testReport : Tested → List ℕ

@@ -6,10 +6,11 @@ mod portions;
 mod reports;
 
 ghost use Rattle.randomiser.specs.Outcome.{NextOutcome};
-ghost use Rattle.ironsimmer.specs.Exported.{EncodeCall, PortionCall, CloseCall, DecodeCall, RandomiseCall, MarkerCall, SearchCall, ConvolveCall, ConvolveCloseCall, LikeliestCall, TransmitCall, ReceiveCall};
+ghost use Rattle.ironsimmer.specs.Exported.{EncodeCall, PortionCall, CloseCall, DecodeCall, SalvageCall, RandomiseCall, MarkerCall, SearchCall, ConvolveCall, ConvolveCloseCall, LikeliestCall, TransmitCall, ReceiveCall};
 use chain::Received;
 use marker::Tested;
 use reed_solomon::Decoded;
+use refusals::Verdict;
 use viterbi::Sought;
 
 #[no_mangle]
@@ -22,7 +23,7 @@ pub extern "C" fn ironsimmer_encode(
 ) -> u64
     ensures { λ r. ⌜ EncodeCall e depth fill (now (frame .entry)) (now (block .entry)) r (now (block .exit)) ⌝ }
 {
-    refusals::verdict_number(reed_solomon::encode(e, depth, fill, frame, block))
+    refusals::verdict_number(encoding::encode(e, depth, fill, frame, block))
 }
 
 #[no_mangle]
@@ -39,7 +40,7 @@ pub extern "C" fn ironsimmer_encode_portion(
 {
     let state = portions::state_of(progress, rows);
     portions::put(
-        reed_solomon::portion(e, depth, fill, state, portion, written),
+        frame_portions::portion(e, depth, fill, state, portion, written),
         progress,
         rows,
     )
@@ -58,7 +59,7 @@ pub extern "C" fn ironsimmer_encode_close(
 {
     let state = portions::state_of(progress, rows);
     portions::put(
-        reed_solomon::close(e, depth, fill, state, checks),
+        frame_portions::close(e, depth, fill, state, checks),
         progress,
         rows,
     )
@@ -83,6 +84,30 @@ pub extern "C" fn ironsimmer_decode(
     }
     let corrected = decoding.counts;
     *counts = reports::report_of(corrected, decoding.total);
+    0
+}
+
+#[no_mangle]
+pub extern "C" fn ironsimmer_salvage(
+    e: u32,
+    depth: u32,
+    fill: u32,
+    s: u32,
+    block: &[u8],
+    frame: &mut [u8],
+    list: &mut [u8],
+    words: &mut [u32; 17],
+) -> u64
+    ensures { λ r. ⌜ SalvageCall e depth fill s (now (block .entry)) (now (frame .entry)) (now (list .entry)) (now (words .entry)) r (now (frame .exit)) (now (list .exit)) (now (words .exit)) ⌝ }
+{
+    let salvaged = reed_solomon::salvage(e, depth, fill, s, block, frame, list);
+    let answer = salvaged.answer;
+    if let Verdict::Refused(parameter) = answer {
+        return refusals::parameter_number(parameter);
+    }
+    let marks = salvaged.marks;
+    let counts = salvaged.counts;
+    *words = reports::salvage_of(marks, counts, salvaged.entries);
     0
 }
 

@@ -2,8 +2,8 @@
 ghost use mathlib.Core.Path.{_≡_};
 ghost use Rattle.ironsimmer.specs.Exported.{stateOf, StatePut};
 use crate::codes::truth_number;
-use reed_solomon::Portioned;
-use reed_solomon::Progress;
+use frame_portions::Portioned;
+use frame_portions::Progress;
 use refusals::Verdict;
 
 pub(crate) fn state_of(progress: &[u32; 2], rows: &[[u8; 32]; 8]) -> Progress
@@ -12,7 +12,7 @@ pub(crate) fn state_of(progress: &[u32; 2], rows: &[[u8; 32]; 8]) -> Progress
     Progress {
         place: progress[0],
         closed: progress[1] != 0,
-        rows: reed_solomon::held_rows(*rows),
+        rows: frame_portions::held_rows(*rows),
     }
 }
 
@@ -26,7 +26,7 @@ pub(crate) fn put(portioned: Portioned, progress: &mut [u32; 2], rows: &mut [[u8
     }
     let state = portioned.state;
     let held = state.rows;
-    *rows = reed_solomon::octet_rows(held);
+    *rows = frame_portions::octet_rows(held);
     let closed = truth_number(state.closed);
     *progress = [state.place, closed];
     0

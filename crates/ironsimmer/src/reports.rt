@@ -2,7 +2,7 @@
 ghost use mathlib.Core.Path.{_≡_};
 ghost use mathlib.Core.List.{[], _∷_, _++_};
 ghost use lib.ListN.{length};
-ghost use Rattle.ironsimmer.specs.Exported.{Reported};
+ghost use Rattle.ironsimmer.specs.Exported.{salvageListed, Reported};
 use crate::codes::form_number;
 use marker::Searched;
 
@@ -40,6 +40,32 @@ pub(crate) fn reception_of(counts: [u8; 8], total: u32, inverted: u32) -> [u32; 
         counts[7] as u32,
         total,
         inverted,
+    ]
+}
+
+// The marks of eight words, their counts, then the number of entries in the list.
+pub(crate) fn salvage_of(marks: [u8; 8], counts: [u8; 8], entries: u32) -> [u32; 17]
+    requires { ⌜ (length marks ≡ 8) × (length counts ≡ 8) ⌝ }
+    ensures { λ r. ⌜ r ≡ salvageListed marks counts entries ⌝ }
+{
+    [
+        marks[0] as u32,
+        marks[1] as u32,
+        marks[2] as u32,
+        marks[3] as u32,
+        marks[4] as u32,
+        marks[5] as u32,
+        marks[6] as u32,
+        marks[7] as u32,
+        counts[0] as u32,
+        counts[1] as u32,
+        counts[2] as u32,
+        counts[3] as u32,
+        counts[4] as u32,
+        counts[5] as u32,
+        counts[6] as u32,
+        counts[7] as u32,
+        entries,
     ]
 }
 

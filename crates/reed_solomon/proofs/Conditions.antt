@@ -14,16 +14,18 @@ use Rattle.refusals.specs.Numbers.{verdictNumber}
 use Rattle.refusals.specs.Calls.{encodeOrder, decodeParameters}
 use Rattle.refusals.specs.declared.Verdict.{Verdict}
 use Rattle.refusals.proofs.Orders.{Clear, accepted-clear, clear-accepted}
+use Rattle.refusals.proofs.Legal.{decode-numbers}
 use Rattle.codewords.specs.Words.{Good, differing}
 use Rattle.codewords.proofs.LineWords.{differing-symmetric}
 use Rattle.codewords.proofs.Codewords.{good-unique, good-more-allowance}
 use Rattle.reed_solomon.specs.declared.Decoded.{Decoded}
 use Rattle.reed_solomon.specs.declared.Decoded.the-variants.{Delivered}
-use Rattle.reed_solomon.specs.Blocks.{wordOf, sentFrom, sum}
-use Rattle.reed_solomon.specs.Outcome.{Coded, EncodeOutcome, Delivery, DecodeOutcome, decodedNumber, decodedValue}
-use Rattle.reed_solomon.proofs.Interleaving.{word-at}
-use Rattle.reed_solomon.proofs.Deliveries.{LegalBlock, legal-block, decode-numbers}
-use Rattle.reed_solomon.proofs.CodedBlocks.{encode-numbers}
+use Rattle.encoding.specs.Blocks.{wordOf, sentFrom, sum}
+use Rattle.encoding.specs.Outcome.{Coded, EncodeOutcome}
+use Rattle.reed_solomon.specs.Outcome.{Delivery, DecodeOutcome, decodedNumber, decodedValue}
+use Rattle.encoding.proofs.Interleaving.{word-at}
+use Rattle.reed_solomon.proofs.Deliveries.{LegalBlock, legal-block}
+use Rattle.encoding.proofs.CodedBlocks.{encode-numbers}
 use Rattle.reed_solomon.proofs.Deliverable.{Passed, Order, delivered-is, all-found, accepted-passed, number-is, same-counts, same-total, same-frame}
 
 -- ---- condition 3

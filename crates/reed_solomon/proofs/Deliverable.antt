@@ -13,14 +13,14 @@ use Rattle.refusals.specs.Sizes.{information, frameLength}
 use Rattle.refusals.specs.Calls.{decodeParameters, decodeOrder}
 use Rattle.refusals.specs.declared.WordRefusal.the-variants.{Parameters, NoCodeword}
 use Rattle.refusals.proofs.Orders.{first-unique, first-accepts, first-passes}
+use Rattle.refusals.proofs.Legal.{decode-numbers}
 use Rattle.refusals.proofs.Verdicts.{parameter-nonzero}
 use Rattle.codewords.specs.Words.{differing}
 use Rattle.codewords.proofs.Codewords.{good-unique, good-more-allowance}
 use Rattle.reed_solomon.specs.declared.Decoded.{Decoded}
 use Rattle.reed_solomon.specs.declared.Decoded.the-variants.{Delivered, Refused}
-use Rattle.reed_solomon.specs.Blocks.{wordOf, sum}
+use Rattle.encoding.specs.Blocks.{wordOf, sum}
 use Rattle.reed_solomon.specs.Outcome.{Delivery, Lost, decodedNumber}
-use Rattle.reed_solomon.proofs.Deliveries.{decode-numbers}
 
 -- Only a delivery has number 0.
 pub delivered-is : (a : Decoded) → decodedNumber a ≡ 0 → a ≡ Delivered

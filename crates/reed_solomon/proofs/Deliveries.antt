@@ -19,21 +19,20 @@ use Rattle.refusals.specs.declared.Verdict.{Verdict}
 use Rattle.refusals.specs.declared.Verdict.the-variants as verdict
 use Rattle.refusals.specs.declared.WordRefusal.{WordRefusal}
 use Rattle.refusals.specs.declared.WordRefusal.the-variants.{Parameters, NoCodeword}
-use Rattle.refusals.proofs.Orders.{Numbered, Clear, accepted-clear, not-different, first-passes}
+use Rattle.refusals.proofs.Orders.{Clear, accepted-clear, not-different, first-passes}
 use Rattle.refusals.proofs.Verdicts.{parameter-nonzero, parameter-not-ten, stopped}
-use Rattle.refusals.proofs.Legal.{LegalWords, legal-words}
+use Rattle.refusals.proofs.Legal.{LegalWords, legal-words, decode-numbers}
 use Rattle.words.proofs.Arrays.{zero-at}
 use Rattle.codewords.specs.Words.{Good, differing}
 use Rattle.codewords.proofs.LineWords.{differing-self}
 use Rattle.reed_solomon.specs.declared.Decoded.{Decoded}
 use Rattle.reed_solomon.specs.declared.Decoded.the-variants.{Delivered, Refused}
-use Rattle.reed_solomon.specs.Blocks.{sentFrom, wordOf, sum}
-use Rattle.reed_solomon.specs.Rows.{noRows}
-use Rattle.reed_solomon.specs.EncoderWorking.{RowsOn}
+use Rattle.encoding.specs.Blocks.{sentFrom, wordOf, sum}
+use Rattle.encoding.specs.Rows.{noRows, RowsOn}
 use Rattle.reed_solomon.specs.Outcome.{Delivery, LowestLost, DecodeOutcome}
 use Rattle.reed_solomon.specs.DecoderWorking.{Standing, WordRows, Fitting, HasCodeword, Repaired}
-use Rattle.reed_solomon.proofs.Interleaving.{place-below, word-at}
-use Rattle.reed_solomon.proofs.CodedBlocks.{checks-rows}
+use Rattle.encoding.proofs.Interleaving.{place-below, word-at}
+use Rattle.encoding.proofs.CodedBlocks.{checks-rows}
 use Rattle.reed_solomon.proofs.StandingChecks.{word-rows, standing-coded}
 use Rattle.reed_solomon.proofs.WordRepairs.{sum-zeros}
 
@@ -44,9 +43,6 @@ pub record LegalBlock (e i q s block frame : ℕ) : Type 0 where
   pub allowance : s ≤ e
   pub received : block ≡ blockLength i q
   pub room : frame ≡ frameLength e i q
-
-pub decode-numbers : (e i q s block frame : ℕ) → Numbered (decodeParameters e i q s block frame)
-decode-numbers e i q s block frame = (omega arith, (omega arith, (omega arith, (omega arith, (omega arith, (omega arith, tt))))))
 
 pub legal-block : (e i q s block frame : ℕ) → FirstOf (decodeParameters e i q s block frame) 0 → LegalBlock e i q s block frame
 legal-block e i q s block frame f =

@@ -13,9 +13,10 @@ use Rattle.refusals.specs.declared.Verdict.{Verdict}
 use Rattle.codewords.specs.Words.{Good, differing}
 use Rattle.codewords.proofs.LineWords.{differing-self}
 use Rattle.reed_solomon.specs.declared.Decoded.{Decoded}
-use Rattle.reed_solomon.specs.Blocks.{wordOf, sum}
-use Rattle.reed_solomon.specs.Outcome.{EncodeOutcome, DecodeOutcome, decodedNumber}
-use Rattle.reed_solomon.proofs.CodedBlocks.{encode-legal}
+use Rattle.encoding.specs.Blocks.{wordOf, sum}
+use Rattle.encoding.specs.Outcome.{EncodeOutcome}
+use Rattle.reed_solomon.specs.Outcome.{DecodeOutcome, decodedNumber}
+use Rattle.encoding.proofs.CodedBlocks.{encode-legal}
 use Rattle.reed_solomon.proofs.Deliverable.{Passed}
 use Rattle.reed_solomon.proofs.Conditions.{Within, condition-two, condition-three-exactly-if, condition-three-counts}
 

@@ -8,7 +8,7 @@ use lib.Bits.{bitXor}
 use lib.ListN.{length, getD, set, replicate, length-set}
 use lib.Seq.{getD-set-same, getD-set-other}
 use Rattle.reed_solomon.specs.DecoderWorking.{Difference, Put}
-use Rattle.reed_solomon.proofs.Interleaving.{place-symbol}
+use Rattle.encoding.proofs.Interleaving.{place-symbol}
 use Rattle.words.proofs.Arrays.{zero-at}
 
 -- the symbols before the k-th stand with the row's octets added, and zeros elsewhere

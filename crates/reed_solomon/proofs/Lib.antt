@@ -1,14 +1,5 @@
--- The laws of the Reed-Solomon coder, and the conditions of acceptance.
-pub mod Eight
-pub mod StepTables
-pub mod Interleaving
-pub mod CheckRows
-pub mod RowTurns
-pub mod CodedBlocks
+-- The laws of the decoder of blocks, and the conditions of acceptance.
 pub mod StandingChecks
-pub mod PortionSteps
-pub mod Settled
-pub mod Portions
 pub mod Gathering
 pub mod WordRepairs
 pub mod Deliveries
@@ -16,10 +7,6 @@ pub mod Deliverable
 pub mod DecodeSettled
 pub mod Conditions
 pub mod Fakes
-pub mod ZeroBlocks
-pub mod Bursts
-pub mod AlteredBlocks
-pub mod LongerBursts
 pub mod SalvagedWords
 pub mod ChangeLists
 pub mod ListTells

@@ -14,11 +14,11 @@ use Rattle.refusals.specs.Calls.{decodeParameters, salvageOrder}
 use Rattle.refusals.specs.declared.Verdict.{Verdict}
 use Rattle.reed_solomon.specs.declared.Decoded.{Decoded}
 use Rattle.reed_solomon.specs.declared.Decoded.the-variants.{Delivered}
-use Rattle.reed_solomon.specs.Blocks.{sentFrom, wordOf, sum}
+use Rattle.encoding.specs.Blocks.{sentFrom, wordOf, sum}
 use Rattle.reed_solomon.specs.Outcome.{Delivery, DecodeOutcome, decodedNumber}
 use Rattle.reed_solomon.specs.Changes.{changesFrom, applied, Tells}
 use Rattle.reed_solomon.specs.Salvaging.{Mended, WordSalvaged, Salvaged, SalvageOutcome}
-use Rattle.reed_solomon.proofs.Interleaving.{place-below, sent-symbol, word-at}
+use Rattle.encoding.proofs.Interleaving.{place-below, sent-symbol, word-at}
 use Rattle.reed_solomon.proofs.Deliveries.{LegalBlock}
 use Rattle.reed_solomon.proofs.Deliverable.{Passed, delivered-is, same-counts, same-frame}
 use Rattle.reed_solomon.proofs.Conditions.{condition-three-exactly-if}

@@ -14,10 +14,10 @@ use Rattle.refusals.specs.declared.Verdict.{Verdict}
 use Rattle.refusals.proofs.Settled.{salvage-parameters-settled}
 use Rattle.codewords.specs.Words.{Good, differing, withFill}
 use Rattle.codewords.proofs.Codewords.{good-unique, good-more-allowance}
-use Rattle.reed_solomon.specs.Blocks.{sentFrom}
+use Rattle.encoding.specs.Blocks.{sentFrom}
 use Rattle.reed_solomon.specs.Changes.{changesFrom}
 use Rattle.reed_solomon.specs.Salvaging.{Mended, WordSalvaged, Salvaged, SalvageOutcome}
-use Rattle.reed_solomon.proofs.Interleaving.{unfilled, known-by-words}
+use Rattle.encoding.proofs.Interleaving.{unfilled, known-by-words}
 use Rattle.reed_solomon.proofs.Deliveries.{LegalBlock}
 use Rattle.reed_solomon.proofs.Salvages.{salvage-legal}
 

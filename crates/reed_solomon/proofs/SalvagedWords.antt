@@ -17,11 +17,11 @@ use Rattle.field.proofs.Sum.{⊕-is, ⊕-zero}
 use Rattle.codewords.specs.Words.{withFill, Good, differing}
 use Rattle.words.specs.Outcome.{fillOf, repaired, WordOutcome}
 use Rattle.words.proofs.Arrays.{zero-at}
-use Rattle.reed_solomon.specs.Blocks.{sentFrom}
+use Rattle.encoding.specs.Blocks.{sentFrom}
 use Rattle.reed_solomon.specs.DecoderWorking.{Put, Fitting}
 use Rattle.reed_solomon.specs.Salvaging.{WordSalvaged}
 use Rattle.reed_solomon.specs.SalvageWorking.{WordPut, WordsPut, MarksSet}
-use Rattle.reed_solomon.proofs.Interleaving.{sent-length, sent-is, sent-symbol, sent-same}
+use Rattle.encoding.proofs.Interleaving.{sent-length, sent-is, sent-symbol, sent-same}
 use Rattle.reed_solomon.proofs.WordRepairs.{repaired-at, fill-is, lost, few}
 
 -- ---- the symbols of a repaired word

@@ -10,44 +10,38 @@ use lib.Seq.{getD-take, length-take-le, take-all, take-take}
 use Rattle.octets.specs.Copies.{copiedOver}
 use Rattle.octets.proofs.Laws.{copied-length, copied-front}
 use Rattle.refusals.specs.Order.{FirstOf}
-use Rattle.refusals.specs.Sizes.{information, blockLength}
 use Rattle.refusals.specs.Numbers.{verdictNumber}
 use Rattle.refusals.specs.Calls.{decodeParameters, salvageOrder}
 use Rattle.refusals.specs.declared.Parameter.{Parameter}
 use Rattle.refusals.specs.declared.Verdict.{Verdict}
 use Rattle.refusals.specs.declared.Verdict.the-variants.{Accepted, Refused}
-use Rattle.refusals.proofs.Orders.{Numbered, Clear, accepted-clear, not-different, first-accepts}
+use Rattle.refusals.proofs.Legal.{accepted-salvage}
 use Rattle.refusals.proofs.Verdicts.{parameter-nonzero, same-verdict}
 use Rattle.codewords.proofs.LineWords.{differing-self}
 use Rattle.words.proofs.Arrays.{zero-at}
-use Rattle.reed_solomon.specs.Blocks.{sentFrom, wordOf}
-use Rattle.reed_solomon.specs.Rows.{noRows}
-use Rattle.reed_solomon.specs.EncoderWorking.{RowsOn}
+use Rattle.encoding.specs.Blocks.{sentFrom, wordOf}
+use Rattle.encoding.specs.Rows.{noRows}
+use Rattle.encoding.specs.Rows.{RowsOn}
 use Rattle.reed_solomon.specs.DecoderWorking.{Standing}
 use Rattle.reed_solomon.specs.Changes.{changesFrom}
 use Rattle.reed_solomon.specs.Salvaging.{WordSalvaged, Salvaged, SalvageOutcome}
 use Rattle.reed_solomon.specs.SalvageWorking.{WordsPut, MarksSet, Listed}
-use Rattle.reed_solomon.proofs.Interleaving.{place-below, sent-same}
-use Rattle.reed_solomon.proofs.Deliveries.{LegalBlock, legal-block, decode-numbers, coded-room, standing-good}
+use Rattle.encoding.proofs.Interleaving.{place-below, sent-same}
+use Rattle.reed_solomon.proofs.Deliveries.{LegalBlock, legal-block, coded-room, standing-good}
 use Rattle.reed_solomon.proofs.ChangeLists.{change-none}
 
 -- ---- what passed parameters say
 
-salvage-numbers : (e i q s block frame list : ℕ) → Numbered (salvageOrder e i q s block frame list)
-salvage-numbers e i q s block frame list = (omega arith, (omega arith, (omega arith, (omega arith, (omega arith, (omega arith, (omega arith, tt)))))))
-
 module _ (e i q s block frame list : ℕ) (f : FirstOf (salvageOrder e i q s block frame list) 0) where
   -- decode accepts them too
   pub salvage-decodes : FirstOf (decodeParameters e i q s block frame) 0
-  salvage-decodes = first-accepts _ (decodeParameters e i q s block frame) (decode-numbers e i q s block frame) f
+  salvage-decodes = accepted-salvage e i q s block frame list f .0
 
   pub salvage-legal : LegalBlock e i q s block frame
   salvage-legal = legal-block e i q s block frame salvage-decodes
 
   pub list-room : list ≡ 4 * block
-  list-room =
-      let clear : Clear (salvageOrder e i q s block frame list) = accepted-clear (salvageOrder e i q s block frame list) (salvage-numbers e i q s block frame list) f in
-      not-different list (4 * blockLength i q) (clear .1 .1 .1 .1 .1 .1 .0) ∙ ap (λ (n : ℕ). 4 * n) (sym (salvage-legal .received))
+  list-room = accepted-salvage e i q s block frame list f .1 ∙ ap (λ (n : ℕ). 4 * n) (sym (salvage-legal .received))
 
 -- ---- the answers
 

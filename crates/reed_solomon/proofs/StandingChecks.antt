@@ -10,13 +10,13 @@ use lib.Seq.{getD-take, length-take-le}
 use Rattle.refusals.specs.Sizes.{information, frameLength, blockLength}
 use Rattle.refusals.proofs.Legal.{LegalWords}
 use Rattle.codewords.specs.Words.{Codeword, withFill}
-use Rattle.reed_solomon.specs.Blocks.{sentFrom, wordOf}
-use Rattle.reed_solomon.specs.Rows.{inRow, noRows}
-use Rattle.reed_solomon.specs.EncoderWorking.{rowAfter, RowsOn}
+use Rattle.encoding.specs.Blocks.{sentFrom, wordOf}
+use Rattle.encoding.specs.Rows.{inRow, noRows, RowsOn}
+use Rattle.encoding.specs.Working.{rowAfter}
 use Rattle.reed_solomon.specs.DecoderWorking.{RowStands, Standing, WordRows}
-use Rattle.reed_solomon.proofs.Interleaving.{sent-is, sent-++, sent-information, place-below, symbol-below}
-use Rattle.reed_solomon.proofs.CheckRows.{row-front-size, row-codeword}
-use Rattle.reed_solomon.proofs.RowTurns.{frame-rows}
+use Rattle.encoding.proofs.Interleaving.{sent-is, sent-++, sent-information, place-below, symbol-below}
+use Rattle.encoding.proofs.CheckRows.{row-front-size, row-codeword}
+use Rattle.encoding.proofs.RowTurns.{frame-rows}
 
 -- ---- the loops
 

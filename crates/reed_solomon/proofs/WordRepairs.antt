@@ -21,10 +21,10 @@ use Rattle.words.specs.Outcome.{LegalWord, fillOf, repaired, WordOutcome}
 use Rattle.words.proofs.Arrays.{zero-at}
 use Rattle.words.proofs.Coefficients.{at-⊞}
 use Rattle.words.proofs.OutcomesAdded.{outcome-⊞}
-use Rattle.reed_solomon.specs.Blocks.{sentFrom, sum}
+use Rattle.encoding.specs.Blocks.{sentFrom, sum}
 use Rattle.reed_solomon.specs.Outcome.{Lost}
 use Rattle.reed_solomon.specs.DecoderWorking.{CodedBy, Difference, Put, Fitting, HasCodeword, WordRepaired, Sofar}
-use Rattle.reed_solomon.proofs.Interleaving.{sent-length, sent-symbol}
+use Rattle.encoding.proofs.Interleaving.{sent-length, sent-symbol}
 
 -- ---- symbols of a repaired word
 

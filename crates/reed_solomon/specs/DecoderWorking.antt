@@ -9,7 +9,7 @@ use lib.ListN.{length, take, getD}
 use Rattle.refusals.specs.Order.{OneOf}
 use Rattle.refusals.specs.Sizes.{strengths, information, blockLength}
 use Rattle.codewords.specs.Words.{Codeword, Good, differing, withFill}
-use Rattle.reed_solomon.specs.Blocks.{sentFrom, wordOf, sum}
+use Rattle.encoding.specs.Blocks.{sentFrom, wordOf, sum}
 use Rattle.reed_solomon.specs.Outcome.{Lost}
 
 -- From octet `first` on the block holds a row's octets, i apart; and from octet `start` on it holds the rows interleaved.

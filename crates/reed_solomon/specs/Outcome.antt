@@ -1,30 +1,17 @@
--- What encode and decode promise (document 01, "Codewords", "Refusal numbers and the order of checks").
+-- What decode promises (document 01, "Codewords", "Refusal numbers and the order of checks").
 use mathlib.Core.Path.{_≡_}
 use mathlib.Core.Logic.{_≢_}
 use mathlib.Core.List.{List}
 use Prim.Native.Nat.{ℕ, _+_, _-_, _*_, _≤_, _<_}
-use lib.ListN.{length, take, getD, replicate}
+use lib.ListN.{length, getD, replicate}
 use Rattle.refusals.specs.Order.{FirstOf}
 use Rattle.refusals.specs.Sizes.{information}
-use Rattle.refusals.specs.Numbers.{verdictNumber, wordNumber, wordValue}
-use Rattle.refusals.specs.Calls.{encodeOrder, decodeOrder}
-use Rattle.refusals.specs.declared.Verdict.{Verdict}
+use Rattle.refusals.specs.Numbers.{wordNumber, wordValue}
+use Rattle.refusals.specs.Calls.{decodeOrder}
 use Rattle.reed_solomon.specs.declared.Decoded.{Decoded}
 use Rattle.reed_solomon.specs.declared.Decoded.the-variants.{Delivered, Refused}
-use Rattle.codewords.specs.Words.{Codeword, Good, differing}
-use Rattle.reed_solomon.specs.Blocks.{wordOf, sum}
-
--- A coded block: the frame comes first, unchanged, and each word with its fill is a codeword.
-pub record Coded (e i q : ℕ) (frame block : List ℕ) : Type 0 where
-  pub information : take (length frame) block ≡ frame
-  pub words : (w : ℕ) → w < i → Codeword e (wordOf i q block w)
-
--- Encode checks in its order. After a refusal the block is as it was.
-pub record EncodeOutcome (e i q : ℕ) (frame before : List ℕ) (answer : Verdict) (after : List ℕ) : Type 0 where
-  pub number : FirstOf (encodeOrder e i q (length frame) (length before)) (verdictNumber answer)
-  pub size : length after ≡ length before
-  pub refused : verdictNumber answer ≢ 0 → after ≡ before
-  pub accepted : verdictNumber answer ≡ 0 → Coded e i q frame after
+use Rattle.codewords.specs.Words.{Good, differing}
+use Rattle.encoding.specs.Blocks.{wordOf, sum}
 
 -- A delivered block: for each word a codeword that is good for it; the frame is their information symbols, interleaved; each count
 -- is the number of symbols in which word and codeword differ, and the counts beyond the depth are zero.

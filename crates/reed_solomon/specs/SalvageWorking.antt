@@ -4,7 +4,7 @@ use mathlib.Core.Logic.{_≢_}
 use mathlib.Core.List.{List, _++_}
 use Prim.Native.Nat.{ℕ, _+_, _-_, _*_, _≤_, _<_}
 use lib.ListN.{length, take, drop, getD}
-use Rattle.reed_solomon.specs.Blocks.{sentFrom}
+use Rattle.encoding.specs.Blocks.{sentFrom}
 use Rattle.reed_solomon.specs.Changes.{change, changesFrom}
 use Rattle.reed_solomon.specs.Salvaging.{WordSalvaged}
 

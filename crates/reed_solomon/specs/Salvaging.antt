@@ -9,7 +9,7 @@ use Rattle.refusals.specs.Numbers.{verdictNumber}
 use Rattle.refusals.specs.Calls.{salvageOrder}
 use Rattle.refusals.specs.declared.Verdict.{Verdict}
 use Rattle.codewords.specs.Words.{Good, differing, withFill}
-use Rattle.reed_solomon.specs.Blocks.{sentFrom}
+use Rattle.encoding.specs.Blocks.{sentFrom}
 use Rattle.reed_solomon.specs.Changes.{changesFrom}
 
 -- A word is repaired: with its fill it is a codeword that is good for what was received; its mark is 1, its count the number of symbols that differ.

@@ -1,7 +1,7 @@
 // The errors of one word of a block, for decode and for salvage.
 ghost use Prim.Native.Nat.{_-_, _<_};
 ghost use Rattle.words.specs.Outcome.{WordOutcome};
-ghost use Rattle.reed_solomon.specs.Blocks.{sentFrom};
+ghost use Rattle.encoding.specs.Blocks.{sentFrom};
 ghost use Rattle.reed_solomon.specs.DecoderWorking.{Fitting, CodedBy};
 use crate::symbols::difference;
 use words::WordAnswer;

@@ -5,19 +5,17 @@ ghost use Prim.Native.Nat.{_+_, _*_, _≤_, _<_};
 ghost use lib.ListN.{length, take};
 ghost use Rattle.refusals.specs.Order.{OneOf};
 ghost use Rattle.refusals.specs.Sizes.{strengths};
-ghost use Rattle.reed_solomon.specs.Rows.{noRows};
-ghost use Rattle.reed_solomon.specs.EncoderWorking.{RowsOn};
+ghost use Rattle.encoding.specs.Rows.{noRows, RowsOn};
 ghost use Rattle.reed_solomon.specs.DecoderWorking.{RowStands, Standing};
-use crate::encoder::enter;
+use encoding::rows_entered;
 
 // The words enter together, as in the encoder: one after the other each would wait for its own feedback.
 pub(crate) fn front_rows(e: u32, depth: usize, n: usize, block: &[u8]) -> [[u8; 32]; 8]
     requires { ⌜ OneOf strengths e × (0 < depth) × (depth ≤ 8) × (n ≤ length (now block)) ⌝ }
     ensures { λ r. ⌜ RowsOn e depth 0 noRows (take n (now (block .entry))) r ⌝ }
 {
-    let mut rows = [[0u8; 32]; 8];
-    enter(e, &mut rows, 0, &block[..n], depth);
-    rows
+    let none = [[0u8; 32]; 8];
+    rows_entered(e, none, 0, &block[..n], depth)
 }
 
 // Whether a row's octets stand in the block from `first` on, `depth` octets apart.

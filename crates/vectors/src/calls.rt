@@ -4,10 +4,10 @@ use chain::Received;
 use chain::Stage;
 use convolution::Convolved;
 use convolution::State;
+use frame_portions::Portioned;
+use frame_portions::Progress;
+use frame_portions::Row;
 use reed_solomon::Decoded;
-use reed_solomon::Portioned;
-use reed_solomon::Progress;
-use reed_solomon::Row;
 use refusals::MarkerRefusal;
 use refusals::WordRefusal;
 use viterbi::Sought;
@@ -21,7 +21,7 @@ fn code(e: u32, depth: u32, fill: u32) {
 pub(crate) fn encode(e: u32, depth: u32, fill: u32, frame: &[u8], block: &mut [u8]) {
     print::text(b"encode");
     code(e, depth, fill);
-    let verdict = reed_solomon::encode(e, depth, fill, frame, &mut *block);
+    let verdict = encoding::encode(e, depth, fill, frame, &mut *block);
     print::verdict(verdict);
     print::buffer(block);
     print::end();
@@ -186,7 +186,7 @@ pub(crate) fn portion(
 ) -> Progress {
     print::text(b"portion");
     code(e, depth, fill);
-    let portioned = reed_solomon::portion(e, depth, fill, state, symbols, &mut *written);
+    let portioned = frame_portions::portion(e, depth, fill, state, symbols, &mut *written);
     let after = progress(portioned);
     print::buffer(written);
     print::end();
@@ -196,7 +196,7 @@ pub(crate) fn portion(
 pub(crate) fn close(e: u32, depth: u32, fill: u32, state: Progress, checks: &mut [u8]) -> Progress {
     print::text(b"close");
     code(e, depth, fill);
-    let portioned = reed_solomon::close(e, depth, fill, state, &mut *checks);
+    let portioned = frame_portions::close(e, depth, fill, state, &mut *checks);
     let after = progress(portioned);
     print::buffer(checks);
     print::end();

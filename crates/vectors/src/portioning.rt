@@ -3,8 +3,8 @@ ghost use lib.ListN.{length};
 ghost use Prim.Native.Nat.{_+_, _*_, _≤_};
 use crate::calls;
 use crate::print;
-use reed_solomon::Progress;
-use reed_solomon::Row;
+use frame_portions::Progress;
+use frame_portions::Row;
 
 fn interleaved(symbols: u32, depth: u32) -> u32
     requires { ⌜ symbols ≤ 255 ⌝ }
@@ -36,7 +36,7 @@ fn portions(e: u32, depth: u32, fill: u32, seed: u32, frame: &[u8], block: &mut 
     requires { ⌜ length (now frame) ≤ length (now block) ⌝ }
 {
     let n = frame.len();
-    let mut state = reed_solomon::start();
+    let mut state = frame_portions::start();
     let mut at = 0usize;
     let mut y = seed;
     for _ in 0u32..64 {
@@ -151,7 +151,7 @@ fn last_steps(frame: [u8; 8], state: Progress) {
 fn step_by_step() {
     let mut frame = [0u8; 8];
     print::fill(41, &mut frame);
-    let none = part(reed_solomon::start(), b"");
+    let none = part(frame_portions::start(), b"");
     let one = part(none, &frame[0..1]);
     let two = part(one, &frame[1..2]);
     let still_two = part(two, b"");

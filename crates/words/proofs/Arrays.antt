@@ -10,7 +10,6 @@ use lib.Seq.{getD-set-same, getD-set-other, getD-take, ext-getD, length-take-le}
 use lib.Bits.{bitXor}
 use Rattle.field.specs.Field.{_⊕_}
 use Rattle.field.proofs.Sum.{⊕-is}
-use Rattle.codewords.specs.Words.{Octets}
 use Rattle.words.specs.Working.{Filled, Same}
 
 pub filled-starts : (f : ℕ → ℕ) (places : ℕ) (out : List ℕ) → length out ≡ places → Filled f places out 0
@@ -69,11 +68,6 @@ module _ (f : ℕ → ℕ) (places : ℕ) where
   pub but-ends : (out : List ℕ) (lo hi : ℕ) → FilledBut f places out lo hi → hi ≤ lo → Filled f places out places
   but-ends out lo hi F h =
       record { size = F .size; each = λ i l. elim (decLt i lo) [ yes s ↦ F .below i s | no s ↦ F .above i (omega arith) l ] }
-
--- bytes, as a slice has them
-pub octets-of : (w : List ℕ) → ((i : ℕ) → getD w i 0 < 256) → Octets w
-octets-of [] h = tt
-octets-of (c ∷ w) h = (h 0, octets-of w (λ i. h (suc i)))
 
 -- what is converted symbol by symbol
 module _ (f : ℕ → ℕ) where

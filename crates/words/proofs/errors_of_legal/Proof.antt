@@ -5,7 +5,7 @@ use lib.ListN.{length, length-take}
 use lib.Seq.{length-take-le}
 use borrow.Author.Needs.{needs}
 use Rattle.refusals.proofs.Legal.{strength-bounds}
-use Rattle.words.proofs.Arrays.{octets-of}
+use Rattle.codewords.proofs.WordValues.{octets-of}
 use Rattle.words.proofs.Outcomes.{take-clear, not-found-is, none-good, found-good}
 use Rattle.words.proofs.errors_of_legal.Statement.{statement}
 use Rattle.words.proofs.errors_of_legal.Tie as tie

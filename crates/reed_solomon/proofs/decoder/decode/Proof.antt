@@ -8,7 +8,7 @@ use lib.Seq.{length-take-le}
 use Rattle.refusals.proofs.Verdicts.{passed}
 use Rattle.refusals.specs.Order.{FirstOf}
 use Rattle.refusals.specs.Calls.{decodeParameters}
-use Rattle.reed_solomon.proofs.CodedBlocks.{octets-known}
+use Rattle.encoding.proofs.CodedBlocks.{octets-known}
 use Rattle.reed_solomon.proofs.Deliveries.{fitting, coded-room, enter-legal, checks-of-words, refuses-parameter, refuses-word, lowest-lost, frame-within, all-good, delivers, delivers-coded}
 use Rattle.reed_solomon.proofs.decoder.decode.Statement.{statement}
 use Rattle.reed_solomon.proofs.decoder.decode.Tie as tie

@@ -10,6 +10,9 @@ use Rattle.reed_solomon.proofs.listing.put_change.Tie as tie
 returns : tie.Need-returns
 returns c = let start = c .before in change-absent (start .args .at) (start .args .old) (start .args .new) (start .args .entries) (start .args .list .now) (c .if1 .taken)
 
+returns-2 : tie.Need-returns-2
+returns-2 c = let start = c .before in change-put (start .args .at) (start .args .old) (start .args .new) (start .args .entries) (start .args .list .now) (c .if1 .left) (omega arith) _ refl
+
 mul-first : tie.Need-mul-first
 mul-first c = search needs
 
@@ -45,9 +48,6 @@ add-result c = search needs
 
 same-length : tie.Need-same-length
 same-length c = search needs
-
-returns-2 : tie.Need-returns-2
-returns-2 c = let start = c .before in change-put (start .args .at) (start .args .old) (start .args .new) (start .args .entries) (start .args .list .now) (c .if1 .left) (omega arith) _ refl
 
 pub put-change-spec : {M : Type 1} → statement M
 put-change-spec =

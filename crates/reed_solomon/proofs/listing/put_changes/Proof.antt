@@ -16,6 +16,13 @@ Inv-loop block mended list₀ entries₀ at₀ n list entries at =
 abbrev μ-loop : tie.MeasureT-loop
 μ-loop block mended list₀ entries₀ at₀ n list entries at = n - at
 
+returns : tie.Need-returns Inv-loop μ-loop
+returns c =
+    let start = c .before .before .before .before .before in
+    let turn = c .before .loop in
+    let all : turn .at ≡ length (start .args .block .now) = omega (arith, turn .inv .0) in
+    subst (λ (n : ℕ). Listed (start .args .block .now) (start .args .mended .now) (start .args .list .now) n (turn .entries) (turn .list)) all (turn .inv .1)
+
 loop-holds : tie.Need-loop-holds Inv-loop μ-loop
 loop-holds c = (omega arith, listed-start _ _ _)
 
@@ -40,13 +47,6 @@ cast-result c = omega (arith, c .before .loop .inv .1 .few, c .before .before .b
 
 same-length : tie.Need-same-length Inv-loop μ-loop
 same-length c = c .before .loop .inv .1 .size
-
-returns : tie.Need-returns Inv-loop μ-loop
-returns c =
-    let start = c .before .before .before .before .before in
-    let turn = c .before .loop in
-    let all : turn .at ≡ length (start .args .block .now) = omega (arith, turn .inv .0) in
-    subst (λ (n : ℕ). Listed (start .args .block .now) (start .args .mended .now) (start .args .list .now) n (turn .entries) (turn .list)) all (turn .inv .1)
 
 pub put-changes-spec : {M : Type 1} → statement M
 put-changes-spec =

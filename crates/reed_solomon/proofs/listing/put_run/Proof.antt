@@ -18,6 +18,19 @@ Inv-loop block mended from end entries list₀ listed₀ at₀ list listed at =
 abbrev μ-loop : tie.MeasureT-loop
 μ-loop block mended from end entries list₀ listed₀ at₀ list listed at = end - at
 
+loop-again : tie.Need-loop-again Inv-loop μ-loop
+loop-again c =
+    let start = c .before .before .before .before .before .before .before .before .before .before .before .before .before in
+    let turn = c .before .before .before .before .before .before .before .loop in
+    let put = c .before .before .put-change in (
+      omega (arith, turn .inv .0),
+      omega arith,
+      omega (arith, turn .inv .2, put .ensures .entered, change-most (turn .at) (getD (start .args .block .now) (turn .at) 0) (getD (start .args .mended .now) (turn .at) 0)),
+      put .ensures .size ∙ turn .inv .3,
+      λ before L. listed-turn (start .args .block .now) (start .args .mended .now) before (start .pre .3) (turn .at) (turn .listed) (turn .list) (put .result) _
+          (omega (arith, start .pre .1)) (put .ensures) (turn .inv .4 before L),
+    )
+
 run-alike-requires : tie.Need-run-alike-requires Inv-loop μ-loop
 run-alike-requires c κs = let start = c .before .before .before in (start .pre .0, start .pre .1, omega (arith, start .pre .3), start .pre .2)
 
@@ -47,19 +60,6 @@ add-at c = search needs
 
 loop-less : tie.Need-loop-less Inv-loop μ-loop
 loop-less c = search needs
-
-loop-again : tie.Need-loop-again Inv-loop μ-loop
-loop-again c =
-    let start = c .before .before .before .before .before .before .before .before .before .before .before .before .before in
-    let turn = c .before .before .before .before .before .before .before .loop in
-    let put = c .before .before .put-change in (
-      omega (arith, turn .inv .0),
-      omega arith,
-      omega (arith, turn .inv .2, put .ensures .entered, change-most (turn .at) (getD (start .args .block .now) (turn .at) 0) (getD (start .args .mended .now) (turn .at) 0)),
-      put .ensures .size ∙ turn .inv .3,
-      λ before L. listed-turn (start .args .block .now) (start .args .mended .now) before (start .pre .3) (turn .at) (turn .listed) (turn .list) (put .result) _
-          (omega (arith, start .pre .1)) (put .ensures) (turn .inv .4 before L),
-    )
 
 same-length : tie.Need-same-length Inv-loop μ-loop
 same-length c = search needs

@@ -3,7 +3,7 @@ use mathlib.Core.Path.{_≡_}
 use Prim.Native.Nat.{ℕ, _-_, _+_, _*_}
 use native.Mathlib.Omega.{arith}
 use lib.ListN.{length}
-use Rattle.reed_solomon.proofs.Interleaving.{symbol-below}
+use Rattle.encoding.proofs.Interleaving.{symbol-below}
 use Rattle.reed_solomon.proofs.StandingChecks.{next-check, RowSeen, row-seen-turn, row-seen-ends}
 use borrow.Author.Needs.{needs}
 use Rattle.reed_solomon.proofs.recoding.row_stands.Statement.{statement}

@@ -7,12 +7,15 @@ use lib.Seq.{length-take-le}
 use Rattle.refusals.specs.Order.{FirstOf}
 use Rattle.refusals.specs.Calls.{salvageOrder, decodeParameters}
 use Rattle.refusals.proofs.Verdicts.{passed}
-use Rattle.reed_solomon.proofs.CodedBlocks.{octets-known}
+use Rattle.encoding.proofs.CodedBlocks.{octets-known}
 use Rattle.reed_solomon.proofs.Deliveries.{fitting, coded-room, enter-legal, checks-of-words}
 use Rattle.reed_solomon.proofs.Salvages.{salvage-decodes, salvage-refuses, block-fits, frame-fits, changes-room, salvages, salvages-coded}
 use borrow.Author.Needs.{needs}
 use Rattle.reed_solomon.proofs.salvager.salvage.Statement.{statement}
 use Rattle.reed_solomon.proofs.salvager.salvage.Tie as tie
+
+returns : tie.Need-returns
+returns c = salvage-refuses _ _ _ _ _ _ _ _ _ (c .before .before .verdict .given .1) (c .before .before .before .before .salvage-parameters .ensures) _ _ _ _ (c .nothing-salvaged .ensures)
 
 -- every check of a parameter has passed
 legal : (c : tie.After-enum-told) → let start = c .before .before .before .before .before .before in
@@ -24,6 +27,16 @@ decodes : (c : tie.After-enum-told) → let start = c .before .before .before .b
     FirstOf (decodeParameters (start .args .e) (start .args .depth) (start .args .fill) (start .args .s) (length (start .args .block .now)) (length (start .args .frame .now))) 0
 decodes c = let start = c .before .before .before .before .before .before in salvage-decodes _ _ _ _ _ _ (length (start .args .list .now)) (legal c)
 
+returns-2 : tie.Need-returns-2
+returns-2 c =
+    salvages-coded _ _ _ _ _ _ _ (legal (c .before .before .before .before .before .before .before .before .before)) (search octets-known) _ (c .before .before .before .before .before .before .before .before .front-rows .ensures) (c .before .before .before .before .before .before .before .has-checks .ensures (c .before .before .before .before .before .before .if1 .taken)) _ _ _ _ _
+    (c .as-received .ensures) (c .before .before .before .copy-front .ensures)
+
+returns-3 : tie.Need-returns-3
+returns-3 c =
+    let start = c .before .before .before .before .before .before .before .before .before .before .before .before .before .before .before .before .before .before .before .before .before .before .before .before in
+    salvages _ _ _ _ (start .args .block .now) (start .args .frame .now) (start .args .list .now) (legal (c .before .before .before .before .before .before .before .before .before .before .before .before .before .before .before .before .before .before)) _ _ _ (c .before .before .before .before .before .before .before .before .before .before .before .before .before .salvage-words .ensures .0) (c .before .before .before .before .before .before .before .before .before .before .before .before .before .salvage-words .ensures .1) _ _ _ (c .before .before .before .before .before .before .before .before .before .copy-front2 .ensures) (c .before .before .before .before .put-changes .ensures)
+
 salvage-parameters-requires : tie.Need-salvage-parameters-requires
 salvage-parameters-requires c κs = search needs
 
@@ -32,9 +45,6 @@ enum-known-verdict c = search needs
 
 nothing-salvaged-requires : tie.Need-nothing-salvaged-requires
 nothing-salvaged-requires c κs = search needs
-
-returns : tie.Need-returns
-returns c = salvage-refuses _ _ _ _ _ _ _ _ _ (c .before .before .verdict .given .1) (c .before .before .before .before .salvage-parameters .ensures) _ _ _ _ (c .nothing-salvaged .ensures)
 
 enum-told : tie.Need-enum-told
 enum-told c = search needs
@@ -56,11 +66,6 @@ as-received-requires c κs = coded-room _ _ _ _ _ _ (decodes (c .before .before 
 
 same-length : tie.Need-same-length
 same-length c = search needs
-
-returns-2 : tie.Need-returns-2
-returns-2 c =
-    salvages-coded _ _ _ _ _ _ _ (legal (c .before .before .before .before .before .before .before .before .before)) (search octets-known) _ (c .before .before .before .before .before .before .before .before .front-rows .ensures) (c .before .before .before .before .before .before .before .has-checks .ensures (c .before .before .before .before .before .before .if1 .taken)) _ _ _ _ _
-    (c .as-received .ensures) (c .before .before .before .copy-front .ensures)
 
 slice-aggregate-salvage-words : tie.Need-slice-aggregate-salvage-words
 slice-aggregate-salvage-words c = search needs
@@ -97,11 +102,6 @@ same-length-2 c = search needs
 
 same-length-3 : tie.Need-same-length-3
 same-length-3 c = search needs
-
-returns-3 : tie.Need-returns-3
-returns-3 c =
-    let start = c .before .before .before .before .before .before .before .before .before .before .before .before .before .before .before .before .before .before .before .before .before .before .before .before in
-    salvages _ _ _ _ (start .args .block .now) (start .args .frame .now) (start .args .list .now) (legal (c .before .before .before .before .before .before .before .before .before .before .before .before .before .before .before .before .before .before)) _ _ _ (c .before .before .before .before .before .before .before .before .before .before .before .before .before .salvage-words .ensures .0) (c .before .before .before .before .before .before .before .before .before .before .before .before .before .salvage-words .ensures .1) _ _ _ (c .before .before .before .before .before .before .before .before .before .copy-front2 .ensures) (c .before .before .before .before .put-changes .ensures)
 
 pub salvage-spec : {M : Type 1} → statement M
 salvage-spec =

@@ -6,6 +6,20 @@ use borrow.Author.Needs.{needs}
 use Rattle.reed_solomon.proofs.salvager.salvage_word.Statement.{statement}
 use Rattle.reed_solomon.proofs.salvager.salvage_word.Tie as tie
 
+returns : tie.Need-returns
+returns c =
+    let start = c .before .before .before .before .before .before .before .before .before .before in
+    let answer = c .before .before .before .before .before .before .before .word-errors in
+    word-kept (start .args .e) (start .args .depth) (start .args .fill) (start .args .s) (start .args .block .now) (start .args .w) (start .pre .0)
+    (answer .result .found) (answer .result .count) (answer .result .errors) (answer .ensures) (start .args .mended .now) _ (c .before .before .before .put-repaired .ensures) (c .if1 .taken)
+
+returns-2 : tie.Need-returns-2
+returns-2 c =
+    let start = c .before .before .before .before .before .before .before .before .before .before in
+    let answer = c .before .before .before .before .before .before .before .word-errors in
+    word-mended (start .args .e) (start .args .depth) (start .args .fill) (start .args .s) (start .args .block .now) (start .args .w) (start .pre .0)
+    (answer .result .found) (answer .result .count) (answer .result .errors) (answer .ensures) (start .args .mended .now) _ (c .before .before .before .put-repaired .ensures) (c .if1 .left)
+
 word-errors-requires : tie.Need-word-errors-requires
 word-errors-requires c κs = let start = c .before .before in (start .pre .0, start .pre .2, start .pre .3)
 
@@ -20,13 +34,6 @@ put-repaired-requires c κs =
 same-length : tie.Need-same-length
 same-length c = search needs
 
-returns : tie.Need-returns
-returns c =
-    let start = c .before .before .before .before .before .before .before .before .before .before in
-    let answer = c .before .before .before .before .before .before .before .word-errors in
-    word-kept (start .args .e) (start .args .depth) (start .args .fill) (start .args .s) (start .args .block .now) (start .args .w) (start .pre .0)
-    (answer .result .found) (answer .result .count) (answer .result .errors) (answer .ensures) (start .args .mended .now) _ (c .before .before .before .put-repaired .ensures) (c .if1 .taken)
-
 cast-t19 : tie.Need-cast-t19
 cast-t19 c =
     let start = c .before .before .before .before .before .before .before .before .before .before in
@@ -39,13 +46,6 @@ cast-t19 c =
 
 same-length-2 : tie.Need-same-length-2
 same-length-2 c = search needs
-
-returns-2 : tie.Need-returns-2
-returns-2 c =
-    let start = c .before .before .before .before .before .before .before .before .before .before in
-    let answer = c .before .before .before .before .before .before .before .word-errors in
-    word-mended (start .args .e) (start .args .depth) (start .args .fill) (start .args .s) (start .args .block .now) (start .args .w) (start .pre .0)
-    (answer .result .found) (answer .result .count) (answer .result .errors) (answer .ensures) (start .args .mended .now) _ (c .before .before .before .put-repaired .ensures) (c .if1 .left)
 
 pub salvage-word-spec : {M : Type 1} → statement M
 salvage-word-spec =

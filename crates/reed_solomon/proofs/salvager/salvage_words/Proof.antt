@@ -16,6 +16,16 @@ Inv-loop e depth fill s block mended₀ rows marks₀ counts₀ w₀ mended mark
 abbrev μ-loop : tie.MeasureT-loop
 μ-loop e depth fill s block mended₀ rows marks₀ counts₀ w₀ mended marks counts w = depth - w
 
+loop-again : tie.Need-loop-again Inv-loop μ-loop
+loop-again c =
+    let start = c .before .before .before .before .before .before .before .before .before in
+    let at = c .before .before .before .before .before .before .loop in
+    let word = c .before .before .salvage-word in (
+      omega arith,
+      word .ensures .size ∙ at .inv .1,
+      words-turn (start .args .e) (start .args .depth) (start .args .fill) (start .args .s) (start .args .block .now) (at .w) (at .marks) (at .counts) (at .mended) (word .result .mark) (word .result .count) _ (omega arith) (start .pre .0 .deep) (at .inv .2) (word .ensures),
+    )
+
 loop-holds : tie.Need-loop-holds Inv-loop μ-loop
 loop-holds c = (omega arith, refl, words-start _ _ _ _ _ _)
 
@@ -41,16 +51,6 @@ add-w c = search needs
 
 loop-less : tie.Need-loop-less Inv-loop μ-loop
 loop-less c = search needs
-
-loop-again : tie.Need-loop-again Inv-loop μ-loop
-loop-again c =
-    let start = c .before .before .before .before .before .before .before .before .before in
-    let at = c .before .before .before .before .before .before .loop in
-    let word = c .before .before .salvage-word in (
-      omega arith,
-      word .ensures .size ∙ at .inv .1,
-      words-turn (start .args .e) (start .args .depth) (start .args .fill) (start .args .s) (start .args .block .now) (at .w) (at .marks) (at .counts) (at .mended) (word .result .mark) (word .result .count) _ (omega arith) (start .pre .0 .deep) (at .inv .2) (word .ensures),
-    )
 
 same-length : tie.Need-same-length Inv-loop μ-loop
 same-length c = search needs

@@ -3,7 +3,7 @@ use mathlib.Core.Path.{_≡_, refl}
 use Prim.Native.Nat.{_≤_, _-_}
 use native.Mathlib.Omega.{arith}
 use borrow.Author.Needs.{needs}
-use Rattle.reed_solomon.proofs.Interleaving.{place-below}
+use Rattle.encoding.proofs.Interleaving.{place-below}
 use Rattle.reed_solomon.proofs.Gathering.{Differing, difference-starts, difference-turn}
 use Rattle.reed_solomon.proofs.symbols.difference.Statement.{statement}
 use Rattle.reed_solomon.proofs.symbols.difference.Tie as tie

@@ -5,7 +5,7 @@ use native.Mathlib.Omega.{arith}
 use borrow.Author.Needs.{needs}
 use lib.ListN.{length}
 use Rattle.reed_solomon.specs.DecoderWorking.{Put}
-use Rattle.reed_solomon.proofs.Interleaving.{place-below}
+use Rattle.encoding.proofs.Interleaving.{place-below}
 use Rattle.reed_solomon.proofs.Gathering.{put-starts, put-turn}
 use Rattle.reed_solomon.proofs.symbols.put_repaired.Statement.{statement}
 use Rattle.reed_solomon.proofs.symbols.put_repaired.Tie as tie

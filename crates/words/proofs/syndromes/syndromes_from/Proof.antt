@@ -4,7 +4,7 @@ use Prim.Native.Nat.{_+_, _≤_, _-_}
 use native.Mathlib.Omega.{arith}
 use lib.ListN.{length}
 use borrow.Author.Needs.{needs}
-use Rattle.words.proofs.Arrays.{octets-of}
+use Rattle.codewords.proofs.WordValues.{octets-of}
 use Rattle.words.proofs.RowTurns.{later-is}
 use Rattle.words.proofs.WordSums.{Summed, summed-starts, summed-turn, summed-ends}
 use Rattle.words.proofs.syndromes.syndromes_from.Statement.{statement}

@@ -1,0 +1,2 @@
+-- Bursts, and what it is to correct one.
+pub mod Bursts

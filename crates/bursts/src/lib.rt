@@ -1,0 +1,1 @@
+// The burst figure: definitions and laws only, no code.

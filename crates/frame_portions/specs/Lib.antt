@@ -1,0 +1,2 @@
+-- A frame in portions.
+pub mod Portions
