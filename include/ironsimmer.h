@@ -100,6 +100,28 @@ uint64_t ironsimmer_decode(uint32_t e, uint32_t depth, uint32_t fill, uint32_t s
                            const uint8_t *block, size_t block_len, uint8_t *frame, size_t frame_len, uint32_t counts[9]);
 
 /*
+ * Salvages what it can of a block, word by word: a word that lies within s symbols of a codeword whose fill is all zero is repaired, and
+ * any other stays as received. The frame is that of the words as they then are: what was wrong in a word that is not repaired is still
+ * in it. Such a word is no refusal, and 10 is never answered.
+ *
+ * words holds eight marks, 1 for a word that is repaired and 0 for one that is not; then eight counts, the number of symbols in which a
+ * repaired word differed from its codeword, checks included, and 0 for a word that is not repaired; then the number of entries in the
+ * list. Marks and counts are 0 beyond the depth. A word that was such a codeword as received is repaired, with count 0. All I words are
+ * repaired exactly if ironsimmer_decode delivers the block, and then with the same frame and counts. Mark, count and symbols of a word
+ * depend on its own received symbols, E, Q and s alone, and not on the other words.
+ *
+ * list has four octets for each octet of the block, 4 (255 - Q) I. Each octet of the block that a repair changes has an entry there, in
+ * the order of the block, from the list's first octet on: the octet's position in the block, from 0, in two octets, the highest first;
+ * then the octet as received; then the octet as repaired, which is another. Changed checks are among them. The list's octets after the
+ * entries stay as they were, and so does the block, which is only read.
+ *
+ * 6 is due if the frame has not (255 - 2E - Q) I octets, and then if the list has not the number above.
+ * Refuses by 1, 2, 3, 4, 5, 6, and then leaves frame, list and words as they were.
+ */
+uint64_t ironsimmer_salvage(uint32_t e, uint32_t depth, uint32_t fill, uint32_t s, const uint8_t *block, size_t block_len,
+                            uint8_t *frame, size_t frame_len, uint8_t *list, size_t list_len, uint32_t words[17]);
+
+/*
  * Adds the pseudo-random sequence to a block of at most 2,040 octets, in place, from the sequence's beginning. The same call undoes it.
  * Refuses by 5, and then leaves the block as it was.
  */

@@ -114,6 +114,40 @@ fn words(draw: &mut Draw, sides: &[&dyn Calls]) -> u64 {
     answer & 255
 }
 
+/// A salvage of a block with none to twice E wrong symbols in a word, in each word another number; now and then a number is past its limit.
+/// Gives how many words were repaired, and how many were not.
+fn salvage(draw: &mut Draw, sides: &[&dyn Calls]) -> [usize; 2] {
+    let (code, fits) = any_code(draw);
+    let depth = code.depth as usize;
+    let (frame_len, block_len) = if fits {
+        (code.frame_len(), code.block_len())
+    } else {
+        (1, 33)
+    };
+    let mut block = draw.octets(block_len);
+    let frame = draw.octets(frame_len);
+    if sides[0].encode(code, &frame, &mut block) == 0 {
+        for w in 0..depth {
+            let wrong = draw.below(code.e as usize + 1) * (1 + draw.below(2));
+            draw.damage_word(&mut block, depth, w, wrong);
+        }
+    }
+    block.resize(about(draw, block_len), 170);
+    let s = one_of(draw, &[code.e], &[0, code.e / 2, u32::MAX]);
+    let mut fresh = Lent::new(about(draw, frame_len));
+    fresh.list = vec![170; about(draw, 4 * block_len)];
+    let what = format!("salvage, {code:?}, s {s}");
+    let (answer, lent) = alike(sides, &fresh, &what, |side, lent| {
+        let (out, list) = (&mut lent.octets, &mut lent.list);
+        side.salvage(code, s, &block, out, list, &mut lent.words)
+    });
+    let repaired = lent.words[..8].iter().sum::<u32>() as usize;
+    match answer {
+        0 => [repaired, depth - repaired],
+        _ => [0, 0],
+    }
+}
+
 /// A stream with up to two markers in either form, at drawn bits, with up to four wrong bits. Starts and budgets lie anywhere, but mostly
 /// about the last that was put there, and about the end. Gives the refusal's number, then the kind and the form.
 fn stream(draw: &mut Draw, sides: &[&dyn Calls]) -> (u64, [u64; 2]) {
@@ -220,6 +254,8 @@ fn randomise(draw: &mut Draw, sides: &[&dyn Calls]) {
 pub struct Sweep {
     /// How often each number was decode's answer.
     pub decoded: [usize; 11],
+    /// How many words salvage repaired, and how many it left as received.
+    pub salvaged: [usize; 2],
     /// How many calls of the convolutional coder were accepted.
     pub convolved: usize,
     /// How many decodings at rate 1/2 were accepted.
@@ -235,6 +271,8 @@ pub fn of_sweep(sides: &[&dyn Calls], draws: usize) -> Sweep {
     let mut sweep = Sweep::default();
     for n in 0..draws {
         sweep.decoded[words(&mut draw, sides) as usize] += 1;
+        let salvaged = salvage(&mut draw, sides);
+        sweep.salvaged = from_fn(|k| sweep.salvaged[k] + salvaged[k]);
         portions(&mut draw, sides);
         sweep.convolved += usize::from(coder(&mut draw, sides));
         sweep.likeliest += usize::from(decoder(&mut draw, sides));

@@ -61,6 +61,16 @@ pub trait Calls {
         counts: &mut [u32; 9],
     ) -> u64;
 
+    fn salvage(
+        &self,
+        code: Code,
+        s: u32,
+        block: &[u8],
+        frame: &mut [u8],
+        list: &mut [u8],
+        words: &mut [u32; 17],
+    ) -> u64;
+
     fn search(
         &self,
         tolerance: u32,

@@ -5,7 +5,7 @@ use crate::calls::{ABSENT, COMPLEMENT, FOUND, MARKER, SPENT, TRUE};
 use crate::data::{put, Draw};
 
 /// Different inputs in turn, so that no side's branches are learnt by heart. Those of likeliest are short, and so there are more.
-const INPUTS: usize = 20;
+pub const INPUTS: usize = 20;
 const SHORT_INPUTS: usize = 200;
 const STREAM: usize = 65536;
 const PLACES: u64 = 8 * STREAM as u64 - 31;
@@ -15,6 +15,8 @@ const PLACES: u64 = 8 * STREAM as u64 - 31;
 pub struct Lent {
     pub octets: Vec<u8>,
     pub counts: [u32; 9],
+    pub list: Vec<u8>,
+    pub words: [u32; 17],
     pub found: [u64; 5],
     pub count: u32,
     pub likeliest: [u32; 2],
@@ -28,6 +30,8 @@ impl Lent {
         Lent {
             octets: vec![170; octets],
             counts: [170; 9],
+            list: Vec::new(),
+            words: [170; 17],
             found: [170; 5],
             count: 170,
             likeliest: [170; 2],
@@ -37,13 +41,14 @@ impl Lent {
     }
 }
 
-enum Work {
+pub enum Work {
     Encode(Code),
     /// A whole frame in portions of so many octets, and the close.
     Portions(Code, usize),
     /// As many empty portions as the frame has octets.
     EmptyPortions(Code),
     Decode(Code),
+    Salvage(Code),
     /// From a start, with a budget.
     Search(u64, u64),
     /// From a state of the coder.
@@ -56,7 +61,7 @@ enum Work {
 }
 
 pub struct Input {
-    read: Vec<u8>,
+    pub read: Vec<u8>,
     /// The outcome, where it is known before any side is asked.
     pub expected: Option<Lent>,
 }
@@ -78,6 +83,9 @@ impl Case {
                 .map(|_| side.portion(code, &mut lent.state, &[], &mut []))
                 .fold(0, |all, number| all | number),
             Work::Decode(code) => side.decode(code, code.e, read, out, &mut lent.counts),
+            Work::Salvage(code) => {
+                side.salvage(code, code.e, read, out, &mut lent.list, &mut lent.words)
+            }
             Work::Search(start, budget) => side.search(3, read, start, budget, &mut lent.found),
             Work::Convolve(rate, state) => {
                 lent.coder = state;
@@ -93,12 +101,12 @@ impl Case {
     pub fn forms(&self) -> usize {
         match self.work {
             Work::Convolve(..) | Work::Stream(..) | Work::Likeliest(_) => 3,
-            Work::Decode(_) | Work::Search(..) => 2,
+            Work::Decode(_) | Work::Salvage(_) | Work::Search(..) => 2,
             _ => 1,
         }
     }
 
-    fn new(name: String, work: Work, octets: usize, input: impl FnMut() -> Input) -> Case {
+    pub fn new(name: String, work: Work, octets: usize, input: impl FnMut() -> Input) -> Case {
         let inputs = match work {
             Work::Likeliest(_) => SHORT_INPUTS,
             _ => INPUTS,

@@ -28,14 +28,19 @@ impl Draw {
         }
     }
 
-    /// Changes so many symbols of each of a block's words, at different places.
+    /// Changes so many symbols of one of a block's words, at different places.
+    pub fn damage_word(&mut self, block: &mut [u8], depth: usize, w: usize, wrong: usize) {
+        let mut places: Vec<usize> = (w..block.len()).step_by(depth).collect();
+        for _ in 0..wrong {
+            let place = places.swap_remove(self.below(places.len()));
+            block[place] ^= 1 + self.below(255) as u8;
+        }
+    }
+
+    /// The same of each word.
     pub fn damage(&mut self, block: &mut [u8], depth: usize, wrong: usize) {
         for w in 0..depth {
-            let mut places: Vec<usize> = (w..block.len()).step_by(depth).collect();
-            for _ in 0..wrong {
-                let place = places.swap_remove(self.below(places.len()));
-                block[place] ^= 1 + self.below(255) as u8;
-            }
+            self.damage_word(block, depth, w, wrong);
         }
     }
 }

@@ -8,12 +8,13 @@ mod clock;
 mod data;
 mod ours;
 mod request;
+mod salvage;
 mod timing;
 
 use baseline::{Baseline, Form};
 use calls::Calls;
 use cases::Case;
-use timing::Timing;
+use timing::{pair, Timing};
 
 const ROUNDS: usize = 200;
 const DRAWS: usize = 4000;
@@ -38,25 +39,17 @@ fn compare(sides: &[&dyn Calls], cases: &[Case]) {
         agreement::of_case(case, sides);
     }
     let [refused, found, absent, spent] = sweep.searched;
+    let [repaired, left] = sweep.salvaged;
     println!(
         "The sides agree on {DRAWS} draws of parameters and data (decode delivered {}, refused {} by 10, the rest by 1 to 6; \
-         convolve accepted {}, likeliest {}; search found {found}, {} of them complements, absent {absent}, spent {spent}, \
-         refused {refused}), and on every timed input.",
+         salvage repaired {repaired} words and left {left} as received; convolve accepted {}, likeliest {}; \
+         search found {found}, {} of them complements, absent {absent}, spent {spent}, refused {refused}), and on every timed input.",
         sweep.decoded[0], sweep.decoded[10], sweep.convolved, sweep.likeliest, sweep.complements
     );
 }
 
-fn number(x: f64) -> String {
-    if x < 1.0 {
-        format!("{x:.3}")
-    } else {
-        format!("{x:.2}")
-    }
-}
-
 fn write_row(sides: &mut [Timing]) {
     let (best, median) = sides[0].result();
-    let pair = |a: f64, b: f64| format!("{} ({})", number(a), number(b));
     print!("| {} | {} |", sides[0].case_name(), pair(best, median));
     for k in 1..4 {
         match sides.get_mut(k).map(Timing::result) {
@@ -149,4 +142,5 @@ fn main() {
     write_portions(&mut timings);
     write_streams(&mut timings);
     write_likeliest(&mut timings);
+    salvage::run(&[&ours::Ours, &plain, &faster]);
 }

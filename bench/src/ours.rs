@@ -43,6 +43,19 @@ extern "C" {
         frame_len: usize,
         counts: *mut u32,
     ) -> u64;
+    fn ironsimmer_salvage(
+        e: u32,
+        depth: u32,
+        fill: u32,
+        s: u32,
+        block: *const u8,
+        block_len: usize,
+        frame: *mut u8,
+        frame_len: usize,
+        list: *mut u8,
+        list_len: usize,
+        words: *mut u32,
+    ) -> u64;
     fn ironsimmer_search(
         tolerance: u32,
         stream: *const u8,
@@ -143,6 +156,32 @@ impl Calls for Ours {
                 frame.as_mut_ptr(),
                 frame.len(),
                 counts.as_mut_ptr(),
+            )
+        }
+    }
+
+    fn salvage(
+        &self,
+        code: Code,
+        s: u32,
+        block: &[u8],
+        frame: &mut [u8],
+        list: &mut [u8],
+        words: &mut [u32; 17],
+    ) -> u64 {
+        unsafe {
+            ironsimmer_salvage(
+                code.e,
+                code.depth,
+                code.fill,
+                s,
+                block.as_ptr(),
+                block.len(),
+                frame.as_mut_ptr(),
+                frame.len(),
+                list.as_mut_ptr(),
+                list.len(),
+                words.as_mut_ptr(),
             )
         }
     }

@@ -56,6 +56,19 @@ impl<'a> Timing<'a> {
     }
 }
 
+fn number(x: f64) -> String {
+    if x < 1.0 {
+        format!("{x:.3}")
+    } else {
+        format!("{x:.2}")
+    }
+}
+
+/// A best and a median as they are written.
+pub fn pair(best: f64, median: f64) -> String {
+    format!("{} ({})", number(best), number(median))
+}
+
 /// Each round takes every case once on every side, in turn from the first side on and from the last.
 pub fn run_rounds(cases: &mut [Vec<Timing>], rounds: usize) {
     let take = |timing: &mut Timing| {

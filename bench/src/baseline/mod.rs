@@ -13,10 +13,11 @@ use crate::calls::{Calls, Code, Coder, State};
 use convolution::ByWindows;
 use eights::ByEights;
 use groups::ByTables;
-use log_table::{Counts, Refusal};
+use log_table::{Counts, Refusal, Salvage};
 use randomiser::Sequence;
 
-/// Which form of decoder, search, convolutional coder and its decoder answers; the other calls have one form, decoder and search have two.
+/// Which form of decoder, salvage, search, convolutional coder and its decoder answers; the other calls have one form, the first three of
+/// these have two.
 pub enum Form {
     Plain,
     Faster,
@@ -57,6 +58,15 @@ fn report(words: Counts, counts: &mut [u32; 9]) -> u64 {
     0
 }
 
+fn told(salvage: Salvage, words: &mut [u32; 17]) -> u64 {
+    for (w, count) in salvage.counts.iter().enumerate() {
+        words[w] = u32::from(count.is_some());
+        words[8 + w] = count.unwrap_or(0);
+    }
+    words[16] = salvage.entries as u32;
+    0
+}
+
 impl Calls for Baseline {
     fn encode(&self, code: Code, frame: &[u8], block: &mut [u8]) -> u64 {
         log_table::encode(code, frame, block).map_or_else(answer, |()| 0)
@@ -89,6 +99,24 @@ impl Calls for Baseline {
             }
         };
         decoded.map_or_else(answer, |words| report(words, counts))
+    }
+
+    fn salvage(
+        &self,
+        code: Code,
+        s: u32,
+        block: &[u8],
+        frame: &mut [u8],
+        list: &mut [u8],
+        words: &mut [u32; 17],
+    ) -> u64 {
+        let salvaged = match self.form {
+            Form::Plain => log_table::salvage(code, s, block, frame, list),
+            Form::Faster | Form::Fastest => {
+                log_table::salvage_by_coding_again(code, s, block, frame, list)
+            }
+        };
+        salvaged.map_or_else(answer, |salvage| told(salvage, words))
     }
 
     fn search(

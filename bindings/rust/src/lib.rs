@@ -11,6 +11,7 @@ mod randomiser;
 #[allow(unsafe_code)]
 mod raw;
 mod refusal;
+mod salvage;
 mod words;
 
 pub use chain::{Chain, Reception};
@@ -20,4 +21,5 @@ pub use marker::{search, test_marker, Form, Search, MARKER};
 pub use portions::PortionEncoder;
 pub use randomiser::{randomise, Sequence};
 pub use refusal::Refusal;
+pub use salvage::{Change, Changes, Salvage};
 pub use words::{Report, Words};

@@ -1,4 +1,4 @@
-//! The thirteen calls of `include/ironsimmer.h`, each behind a function that anyone may call. No other module has `unsafe` in it.
+//! The fourteen calls of `include/ironsimmer.h`, each behind a function that anyone may call. No other module has `unsafe` in it.
 //!
 //! The header asks two things of its caller. Each pointer is not null and points to as many octets or numbers as are said to be
 //! there: a reference is never null, not even an empty slice's, and a slice's own length goes with it. And what is lent to be
@@ -49,6 +49,20 @@ extern "C" {
         frame: *mut u8,
         frame_len: usize,
         counts: *mut u32,
+    ) -> u64;
+
+    fn ironsimmer_salvage(
+        e: u32,
+        depth: u32,
+        fill: u32,
+        s: u32,
+        block: *const u8,
+        block_len: usize,
+        frame: *mut u8,
+        frame_len: usize,
+        list: *mut u8,
+        list_len: usize,
+        words: *mut u32,
     ) -> u64;
 
     fn ironsimmer_randomise(block: *mut u8, block_len: usize) -> u64;
@@ -182,6 +196,34 @@ pub fn decode(words: Words, allowance: u32, block: &[u8], frame: &mut [u8], coun
             frame.as_mut_ptr(),
             frame.len(),
             counts.as_mut_ptr(),
+        )
+    }
+}
+
+pub fn salvage(
+    words: Words,
+    allowance: u32,
+    block: &[u8],
+    frame: &mut [u8],
+    list: &mut [u8],
+    told: &mut [u32; 17],
+) -> u64 {
+    let Words { strength, depth, fill } = words;
+    // SAFETY: the three slices go with their own lengths, told has the seventeen numbers that are written, and the frame, the list and
+    // told, each lent by `&mut`, overlap neither the block nor each other.
+    unsafe {
+        ironsimmer_salvage(
+            strength,
+            depth,
+            fill,
+            allowance,
+            block.as_ptr(),
+            block.len(),
+            frame.as_mut_ptr(),
+            frame.len(),
+            list.as_mut_ptr(),
+            list.len(),
+            told.as_mut_ptr(),
         )
     }
 }

@@ -8,6 +8,7 @@ use native.Mathlib.Omega.{arith}
 use native.Mathlib.Decide.{ℕ-discrete}
 use lib.ListN.{length, getD, drop, set, length-set, drop-of-length-le, replicate, length-replicate, List·getD-eq-default}
 use lib.Seq.{getD-set-same, getD-set-other}
+use lib.Bits.{bitXor}
 use Rattle.field.specs.Field.{_⊕_, _·_, pow, inverseOf}
 use Rattle.field.proofs.Sum.{⊕-comm}
 use Rattle.field.proofs.Product.{·-comm, ·-assoc, ·-one-octet}
@@ -17,8 +18,9 @@ use Rattle.codewords.specs.Locators.{beta, X}
 use Rattle.codewords.specs.Errors.{errorIfRoot, errorOf, errorAt}
 use Rattle.codewords.proofs.Division.{length-quot}
 use Rattle.codewords.proofs.ErrorsFound.{errorIfRoot-zero}
-use Rattle.words.specs.Working.{Filled, terms, scaledSumAt, productAt, productSumAt, inverseAt, locatorPower, hornerAt, laterAt, dividedAt, slopeAt, errorAtEach, HoldsDivision, Listed, HoldsRoots, AreRoots, Placed, HoldsPlaces}
-use Rattle.words.proofs.Arrays.{zero-at}
+use Rattle.words.specs.Working.{Filled, terms, scaledSumAt, productAt, productSumAt, inverseAt, locatorPower, hornerAt, laterAt, dividedAt, slopeAt, errorAtEach, CoefficientTaken, HoldsDivision, Listed, HoldsRoots, AreRoots, Placed, HoldsPlaces}
+use Rattle.words.proofs.Arrays.{zero-at, filled-starts}
+use Rattle.words.proofs.RowTurns.{scaled-plus-turn, times-plus-turn, horner-turn}
 use Rattle.words.proofs.Coefficients.{eval-drop, dot-drop, at-quot}
 use Rattle.words.proofs.InversesListed.{inverse-times}
 
@@ -57,6 +59,7 @@ pub record Dividing (places : ℕ) (s p points above below rest : List ℕ) (j :
   pub rest-is : (i : ℕ) → i < places → getD rest i 0 ≡ eval (drop j p) (getD points i 0)
   pub above-size : length above ≡ places
   pub below-size : length below ≡ places
+  pub rest-size : length rest ≡ places
   pub above-is : (i : ℕ) → i < places → getD above i 0 ≡ dot (terms s) j (drop j (quot p (getD points i 0)))
   pub below-is : (i : ℕ) → i < places → getD below i 0 ≡ eval (drop j (quot p (getD points i 0))) (getD points i 0)
 
@@ -72,6 +75,7 @@ dividing-starts places s p points =
       rest-is = λ i l. zero-at places i ∙ ap (λ (q : List ℕ). eval q (getD points i 0)) (sym (drop-of-length-le p {i = length p} (omega arith)));
       above-size = length-replicate places 0;
       below-size = length-replicate places 0;
+      rest-size = length-replicate places 0;
       above-is = λ i l. zero-at places i ∙ ap (dot (terms s) (length p)) (sym (none (getD points i 0)));
       below-is = λ i l. zero-at places i ∙ ap (λ (q : List ℕ). eval q (getD points i 0)) (sym (none (getD points i 0)));
     }
@@ -100,6 +104,7 @@ module _ (places : ℕ) (s p points above below rest : List ℕ) (j : ℕ) (h : 
             ∙ sym (eval-drop p (j - 1) (getD points i 0));
         above-size = A .size;
         below-size = B .size;
+        rest-size = R .size;
         above-is = λ i l.
             A .each i l
             ∙ ap₂ (λ (u v : ℕ). u ⊕ v)
@@ -111,6 +116,21 @@ module _ (places : ℕ) (s p points above below rest : List ℕ) (j : ℕ) (h : 
             ∙ ap₂ (λ (u v : ℕ). u ⊕ getD points i 0 · v) (coefficient-is i l) (D .below-is i l ∙ ap (λ (k : ℕ). eval (drop k (quot p (getD points i 0))) (getD points i 0)) (sym (up j h)))
             ∙ sym (eval-drop (quot p (getD points i 0)) (j - 1) (getD points i 0));
       }
+
+-- one turn's three sums, filled in side by side
+
+pub taken-starts : (points above below rest : List ℕ) (x c : ℕ) → CoefficientTaken points above below rest x c (replicate 16 0) (replicate 16 0) (replicate 16 0) 0
+taken-starts points above below rest x c = record { above-is = filled-starts _ 16 _ refl; below-is = filled-starts _ 16 _ refl; rest-is = filled-starts _ 16 _ refl }
+
+pub taken-turn : {points above below rest above′ below′ rest′ : List ℕ} {x c : ℕ} (i u v w : ℕ) → CoefficientTaken points above below rest x c above′ below′ rest′ i → i < 16
+    → u ≡ x · getD rest i 0 → v ≡ getD points i 0 · getD below i 0 → w ≡ getD points i 0 · getD rest i 0
+    → CoefficientTaken points above below rest x c (set above′ i (bitXor u (getD above i 0))) (set below′ i (bitXor v (getD rest i 0))) (set rest′ i (bitXor w c)) (i + 1)
+taken-turn {points} {above} {below} {rest} i u v w T h p q r =
+    record {
+      above-is = scaled-plus-turn _ _ _ _ i u (T .above-is) h p;
+      below-is = times-plus-turn _ _ _ _ i v (T .below-is) h q;
+      rest-is = horner-turn _ _ _ _ i w (T .rest-is) h (r ∙ ·-comm (getD points i 0) (getD rest i 0));
+    }
 
 pub dividing-ends : (s p points above below rest : List ℕ) → Dividing 16 s p points above below rest 0 → HoldsDivision s p points above below
 unfolding dividedAt slopeAt

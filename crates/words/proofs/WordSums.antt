@@ -1,4 +1,4 @@
--- The values of a word at many powers of beta by Horner's rule, one symbol at a time, in two rows; and a word without the zeros in front of it.
+-- The values of a word at many powers of beta by Horner's rule, one symbol at a time; and a word without the zeros in front of it.
 use mathlib.Core.Path.{_≡_, refl, sym, ap, ap₂, _∙_}
 use mathlib.Core.List.{List, _++_, map}
 use Prim.Native.Nat.{ℕ, _+_, _-_, _≤_, _<_}
@@ -13,21 +13,21 @@ use Rattle.codewords.specs.Words.{Octets, valueAt}
 use Rattle.codewords.specs.Locators.{X, syndromes}
 use Rattle.codewords.proofs.WordValues.{horner, horner-value, fill-value}
 use Rattle.codewords.proofs.LineWords.{conversion-fill}
-use Rattle.words.specs.Working.{Filled, TwoRows, hornerAt, conventionalAt}
+use Rattle.words.specs.Working.{Filled, hornerAt, conventionalAt}
 use Rattle.words.proofs.Arrays.{zero-at}
 use Rattle.words.proofs.Conversions.{conventional-ends}
 
 -- ---- a word at a row of points: what is left to do from symbol j on
 
 pub record Summed (m : ℕ) (word sums : List ℕ) (j : ℕ) : Type 0 where
-  pub size : length sums ≡ 16
-  pub each : (i : ℕ) → i < 16 → horner (getD sums i 0) (drop j word) (X (m + i)) ≡ horner 0 word (X (m + i))
+  pub size : length sums ≡ 32
+  pub each : (i : ℕ) → i < 32 → horner (getD sums i 0) (drop j word) (X (m + i)) ≡ horner 0 word (X (m + i))
 
-pub summed-starts : (m : ℕ) (word : List ℕ) → Summed m word (replicate 16 0) 0
-summed-starts m word = record { size = refl; each = λ i l. ap (λ (x : ℕ). horner x word (X (m + i))) (zero-at 16 i) }
+pub summed-starts : (m : ℕ) (word : List ℕ) → Summed m word (replicate 32 0) 0
+summed-starts m word = record { size = refl; each = λ i l. ap (λ (x : ℕ). horner x word (X (m + i))) (zero-at 32 i) }
 
-pub summed-turn : (m : ℕ) (word sums points next : List ℕ) (j symbol : ℕ) → Summed m word sums j → j < length word → Filled (λ i. X (m + i)) 16 points 16
-    → symbol ≡ getD word j 0 → Filled (hornerAt sums points symbol) 16 next 16 → Summed m word next (j + 1)
+pub summed-turn : (m : ℕ) (word sums points next : List ℕ) (j symbol : ℕ) → Summed m word sums j → j < length word → Filled (λ i. X (m + i)) 32 points 32
+    → symbol ≡ getD word j 0 → Filled (hornerAt sums points symbol) 32 next 32 → Summed m word next (j + 1)
 unfolding horner hornerAt
 summed-turn m word sums points next j symbol S h P e N =
     record {
@@ -37,44 +37,13 @@ summed-turn m word sums points next j symbol S h P e N =
           ∙ ap (λ (w : List ℕ). horner (getD sums i 0) w (X (m + i))) (sym (drop-cons word j 0 h)) ∙ S .each i l;
     }
 
--- two rows, one behind the other, hold the syndromes
-pub summed-ends : (m : ℕ) (word low high sums : List ℕ) (j : ℕ) → Summed m word low j → Summed (m + 16) word high j → length word ≤ j → Octets word → TwoRows low high sums 16
-    → Filled (syndromes m word) 32 sums 32
+-- nothing is left: they are the syndromes
+pub summed-ends : (m : ℕ) (word sums : List ℕ) (j : ℕ) → Summed m word sums j → length word ≤ j → Octets word → Filled (syndromes m word) 32 sums 32
 unfolding horner syndromes
-summed-ends m word low high sums j L H h o T =
+summed-ends m word sums j S h o =
     record {
-      size = T .size;
-      each = λ i l. elim (decLt i 16) [
-        | yes k ↦ T .low-is i k ∙ value m low L i k
-        | no k ↦ ap (λ (n : ℕ). getD sums n 0) (behind i (omega arith)) ∙ T .high-is (i - 16) (omega arith) ∙ value (m + 16) high H (i - 16) (omega arith)
-            ∙ ap (λ (n : ℕ). valueAt word (X n)) (omega arith)
-      ];
-    }
-  where
-    behind : (i : ℕ) → 16 ≤ i → i ≡ 16 + (i - 16)
-    behind i h = omega arith
-
-    value : (m : ℕ) (row : List ℕ) → Summed m word row j → (i : ℕ) → i < 16 → getD row i 0 ≡ valueAt word (X (m + i))
-    value m row S i l = ap (λ (w : List ℕ). horner (getD row i 0) w (X (m + i))) (sym (drop-of-length-le word h)) ∙ S .each i l ∙ horner-value word (X (m + i)) o
-
--- ---- the loop that puts them so
-
-pub rows-start : (low high : List ℕ) → TwoRows low high (replicate 32 0) 0
-rows-start low high = record { size = refl; low-is = λ i l. absurd (omega arith); high-is = λ i l. absurd (omega arith) }
-
-pub rows-turn : (low high out : List ℕ) (n : ℕ) → n < 16 → TwoRows low high out n → TwoRows low high (set (set out n (getD low n 0)) (16 + n) (getD high n 0)) (n + 1)
-rows-turn low high out n h T =
-    record {
-      size = length-set (set out n (getD low n 0)) (16 + n) (getD high n 0) ∙ length-set out n (getD low n 0) ∙ T .size;
-      low-is = λ i l. getD-set-other (set out n (getD low n 0)) (16 + n) i (getD high n 0) 0 (omega arith) ∙ elim (ℕ-discrete i n) [
-        | yes e ↦ ap (λ (k : ℕ). getD (set out n (getD low n 0)) k 0) e ∙ getD-set-same out n (getD low n 0) 0 (omega (arith, T .size)) ∙ ap (λ (k : ℕ). getD low k 0) (sym e)
-        | no d ↦ getD-set-other out n i (getD low n 0) 0 d ∙ T .low-is i (omega arith)
-      ];
-      high-is = λ i l. elim (ℕ-discrete i n) [
-        | yes e ↦ ap (λ (k : ℕ). getD (set (set out n (getD low n 0)) (16 + n) (getD high n 0)) (16 + k) 0) e
-            ∙ getD-set-same (set out n (getD low n 0)) (16 + n) (getD high n 0) 0 (omega (arith, length-set out n (getD low n 0), T .size)) ∙ ap (λ (k : ℕ). getD high k 0) (sym e)
-        | no d ↦ getD-set-other (set out n (getD low n 0)) (16 + n) (16 + i) (getD high n 0) 0 (omega arith) ∙ getD-set-other out n (16 + i) (getD low n 0) 0 (omega arith) ∙ T .high-is i (omega arith)
-      ];
+      size = S .size;
+      each = λ i l. ap (λ (w : List ℕ). horner (getD sums i 0) w (X (m + i))) (sym (drop-of-length-le word h)) ∙ S .each i l ∙ horner-value word (X (m + i)) o;
     }
 
 -- ---- zeros in front

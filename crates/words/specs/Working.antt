@@ -49,12 +49,6 @@ inverseAt a i = inverseOf (getD a i 0)
 unfoldable pub laterAt : List ℕ → ℕ → ℕ → ℕ
 laterAt list from i = getD list (from + i) 0
 
--- Two rows of 16 stand one behind the other, so far as the first n of each.
-pub record TwoRows (low high out : List ℕ) (n : ℕ) : Type 0 where
-  pub size : length out ≡ 32
-  pub low-is : (i : ℕ) → i < n → getD out i 0 ≡ getD low i 0
-  pub high-is : (i : ℕ) → i < n → getD out (16 + i) 0 ≡ getD high i 0
-
 -- The k-th powers of all locators; and the m-th powers of the locators of listed powers of beta.
 unfoldable pub powerOfEach : ℕ → ℕ → ℕ
 powerOfEach k i = X (k * i)
@@ -124,6 +118,12 @@ pub record HoldsChanged (s marks : List ℕ) (len : ℕ) (sigma : List ℕ) : Ty
   pub sigma-is : len < 32 → Same sigma (run (λ i. dot (terms s) i (erasure marks)) (length s - weight marks) .sig)
   pub sigma-size : length sigma ≡ 33
   pub few : len + weight marks ≤ length s
+
+-- For each point z, with one coefficient c more and a factor x: x rest + above, z below + rest, and z rest + c; so far in the first n places.
+pub record CoefficientTaken (points above below rest : List ℕ) (x c : ℕ) (above′ below′ rest′ : List ℕ) (n : ℕ) : Type 0 where
+  pub above-is : Filled (scaledSumAt x rest above) 16 above′ n
+  pub below-is : Filled (productSumAt points below rest) 16 below′ n
+  pub rest-is : Filled (hornerAt rest points c) 16 rest′ n
 
 -- For each point: the quotient of p by x + z, paired with s, and its value at z.
 pub record HoldsDivision (s p points above below : List ℕ) : Type 0 where

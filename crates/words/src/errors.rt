@@ -1,15 +1,13 @@
 // The errors at the roots of a word's locator polynomial, for 16 roots at a time.
 ghost use mathlib.Core.Path.{_≡_};
 ghost use Prim.Native.Nat.{_+_, _*_, _%_, _≤_, min};
-ghost use Rattle.words.specs.Working.{Filled, terms, locatorPower, errorAtEach, HoldsDivision, HoldsRoots, AreRoots, Placed, HoldsPlaces};
+ghost use lib.ListN.{length, replicate};
+ghost use Rattle.words.specs.Working.{Filled, terms, locatorPower, errorAtEach, CoefficientTaken, HoldsDivision, HoldsRoots, AreRoots, Placed, HoldsPlaces};
 use crate::inverses::inverses;
 use crate::locators::locators;
 use crate::roots::Roots;
 use crate::rows::row_from;
-use crate::rows::scaled_plus;
 use crate::rows::times;
-use crate::rows::times_plus;
-use crate::rows::with_symbol;
 
 // Which power of beta the m-th power of a locator is: they come round after 255.
 fn times_round(power: u8, m: usize) -> usize
@@ -39,33 +37,71 @@ fn term(s: &[u8], j: usize) -> u8
     if j < s.len() { s[j] } else { 0 }
 }
 
-// For each locator z: the quotient of lambda by x + z, paired with the syndromes s, and its value at z.
+// For each locator z: the quotient of lambda by x + z, paired with the syndromes s, and its value at z, both so far as the coefficients from
+// the top were taken; and the quotient's next coefficient.
 struct Division {
     above: [u8; 16],
     below: [u8; 16],
+    rest: [u8; 16],
+}
+
+// One coefficient of lambda more, and the syndrome of its place. It is called at one place only, so that the compiler puts it there, however
+// often the decoder of a word is itself called.
+fn with_coefficient(
+    before: Division,
+    locators: &[u8; 16],
+    syndrome: u8,
+    coefficient: u8,
+) -> Division
+    requires { ⌜ (length (before .above) ≡ 16) × (length (before .below) ≡ 16) × (length (before .rest) ≡ 16) ⌝ }
+    ensures { λ q. ⌜ CoefficientTaken (now (locators .entry)) (before .above) (before .below) (before .rest) syndrome coefficient (q .above) (q .below) (q .rest) 16 ⌝ }
+{
+    let above = before.above;
+    let below = before.below;
+    let rest = before.rest;
+    let mut more_above: [u8; 16] = [0; 16];
+    let mut more_below: [u8; 16] = [0; 16];
+    let mut more_rest: [u8; 16] = [0; 16];
+    for i in 0..16 {
+        let paired = field::mul(syndrome, rest[i]);
+        let value = field::mul(locators[i], below[i]);
+        let carried = field::mul(locators[i], rest[i]);
+        more_above[i] = paired ^ above[i];
+        more_below[i] = value ^ rest[i];
+        more_rest[i] = carried ^ coefficient;
+    }
+    Division {
+        above: more_above,
+        below: more_below,
+        rest: more_rest,
+    }
+}
+
+fn undivided() -> Division
+    ensures { λ q. ⌜ (q .above ≡ replicate 16 0) × (q .below ≡ replicate 16 0) × (q .rest ≡ replicate 16 0) ⌝ }
+{
+    let above: [u8; 16] = [0; 16];
+    let below: [u8; 16] = [0; 16];
+    let rest: [u8; 16] = [0; 16];
+    Division {
+        above: above,
+        below: below,
+        rest: rest,
+    }
 }
 
 fn divided(s: &[u8], lambda: &[u8], locators: &[u8; 16]) -> Division
     ensures { λ q. ⌜ HoldsDivision (now (s .entry)) (now (lambda .entry)) (now (locators .entry)) (q .above) (q .below) ⌝ }
 {
-    let mut above: [u8; 16] = [0; 16];
-    let mut below: [u8; 16] = [0; 16];
-    let mut rest: [u8; 16] = [0; 16];
+    let mut division = undivided();
     let mut j = lambda.len();
     while j > 0 {
         j -= 1;
         let syndrome = term(s, j);
-        let more_above = scaled_plus(syndrome, &rest, &above);
-        let more_below = times_plus(locators, &below, &rest);
-        let more_rest = with_symbol(&rest, locators, lambda[j]);
-        above = more_above;
-        below = more_below;
-        rest = more_rest;
+        let more = with_coefficient(division, locators, syndrome, lambda[j]);
+        division = more;
     }
-    Division {
-        above: above,
-        below: below,
-    }
+    division
 }
 
 // The error at each of 16 places, if it is a root; the syndromes s begin at the m-th power of beta.

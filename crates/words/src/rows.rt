@@ -1,7 +1,7 @@
 // Rows of 16 field elements, worked on side by side: each function makes a fresh row, which the compiler can keep in vector registers.
 ghost use Prim.Native.Nat.{_+_, _≤_};
 ghost use lib.ListN.{length};
-ghost use Rattle.words.specs.Working.{Filled, scaledSumAt, productAt, productSumAt, hornerAt, laterAt};
+ghost use Rattle.words.specs.Working.{Filled, productAt, hornerAt, laterAt};
 
 // 16 of a list, from a place on.
 pub(crate) fn row_from(list: &[u8], from: usize) -> [u8; 16]
@@ -23,32 +23,6 @@ pub(crate) fn times(a: &[u8; 16], b: &[u8; 16]) -> [u8; 16]
     for i in 0..16 {
         let product = field::mul(a[i], b[i]);
         out[i] = product;
-    }
-    out
-}
-
-// x a + b.
-pub(crate) fn scaled_plus(x: u8, a: &[u8; 16], b: &[u8; 16]) -> [u8; 16]
-    ensures { λ r. ⌜ Filled (scaledSumAt x (now (a .entry)) (now (b .entry))) 16 r 16 ⌝ }
-{
-    let mut out: [u8; 16] = [0; 16];
-    for i in 0..16 {
-        let product = field::mul(x, a[i]);
-        let added = b[i];
-        out[i] = product ^ added;
-    }
-    out
-}
-
-// a b + c.
-pub(crate) fn times_plus(a: &[u8; 16], b: &[u8; 16], c: &[u8; 16]) -> [u8; 16]
-    ensures { λ r. ⌜ Filled (productSumAt (now (a .entry)) (now (b .entry)) (now (c .entry))) 16 r 16 ⌝ }
-{
-    let mut out: [u8; 16] = [0; 16];
-    for i in 0..16 {
-        let product = field::mul(a[i], b[i]);
-        let added = c[i];
-        out[i] = product ^ added;
     }
     out
 }

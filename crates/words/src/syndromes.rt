@@ -2,45 +2,52 @@
 ghost use mathlib.Core.Path.{_≡_};
 ghost use mathlib.Core.Bool.{true};
 ghost use mathlib.Core.List.{map};
-ghost use Prim.Native.Nat.{ℕ, _-_, _≤_, _<_};
+ghost use Prim.Native.Nat.{ℕ, _+_, _-_, _≤_, _<_};
 ghost use lib.ListN.{getD, length, take, replicate};
 ghost use Rattle.field.specs.Line.{toConventional};
 ghost use Rattle.codewords.specs.Locators.{syndromes};
-ghost use Rattle.words.specs.Working.{Filled, TwoRows};
+ghost use Rattle.words.specs.Working.{Filled, hornerAt, laterAt};
 use crate::line::conventional;
 use crate::locators::locators;
-use crate::rows::row_from;
-use crate::rows::with_symbol;
 
-// Two rows, one behind the other.
-fn both(low: &[u8; 16], high: &[u8; 16]) -> [u8; 32]
-    ensures { λ r. ⌜ TwoRows (now (low .entry)) (now (high .entry)) r 16 ⌝ }
+// 32 of the locators, from a place on.
+fn points_from(list: &[u8], from: usize) -> [u8; 32]
+    requires { ⌜ from + 32 ≤ length (now list) ⌝ }
+    ensures { λ r. ⌜ Filled (laterAt (now (list .entry)) from) 32 r 32 ⌝ }
 {
     let mut out: [u8; 32] = [0; 32];
-    for i in 0usize..16 {
-        out[i] = low[i];
-        out[16 + i] = high[i];
+    for i in 0..32 {
+        out[i] = list[from + i];
     }
     out
 }
 
-// Always 32 of them, the number at the greater strength, in two rows.
+// One symbol more, by Horner's rule at every point. It is called at one place only, so that the compiler puts it there, however often the
+// decoder of a word is itself called.
+fn with_next(sums: &[u8; 32], points: &[u8; 32], symbol: u8) -> [u8; 32]
+    ensures { λ r. ⌜ Filled (hornerAt (now (sums .entry)) (now (points .entry)) symbol) 32 r 32 ⌝ }
+{
+    let mut out: [u8; 32] = [0; 32];
+    for i in 0..32 {
+        let product = field::mul(points[i], sums[i]);
+        out[i] = product ^ symbol;
+    }
+    out
+}
+
+// Always 32 of them, the number at the greater strength.
 fn syndromes_from(m: usize, word: &[u8]) -> [u8; 32]
     requires { ⌜ m ≤ 128 ⌝ }
     ensures { λ r. ⌜ Filled (syndromes m (now (word .entry))) 32 r 32 ⌝ }
 {
     let list = locators();
-    let low = row_from(&list, m);
-    let high = row_from(&list, m + 16);
-    let mut sums: [u8; 16] = [0; 16];
-    let mut higher: [u8; 16] = [0; 16];
+    let points = points_from(&list, m);
+    let mut sums: [u8; 32] = [0; 32];
     for j in 0..word.len() {
-        let next = with_symbol(&sums, &low, word[j]);
-        let next_higher = with_symbol(&higher, &high, word[j]);
+        let next = with_next(&sums, &points, word[j]);
         sums = next;
-        higher = next_higher;
     }
-    both(&sums, &higher)
+    sums
 }
 
 fn zeros_before(sent: &[u8]) -> usize

@@ -1,7 +1,8 @@
-//! The thirteen calls, each made in both programs on the same input. All that they answer and leave behind is compared.
+//! The fourteen calls, each made in both programs on the same input. All that they answer and leave behind is compared.
 
 use ironsimmer::{
-    Chain, CoderState, Convolver, Form, Likeliest, PortionEncoder, Reception, Refusal, Report, Search, Sequence, Words,
+    Chain, Change, CoderState, Convolver, Form, Likeliest, PortionEncoder, Reception, Refusal, Report, Salvage, Search,
+    Sequence, Words,
 };
 use second::blocks::{Code, Decoding};
 use second::convolution::Coder;
@@ -121,6 +122,47 @@ pub fn decode(words: Words, allowance: u32, block: &[u8], before: &[u8]) -> (Res
     let expected = code(words).decode(allowance.into(), block, before);
     same_decoding(&answer, &frame, &expected, &format!("{words:?}, allowance {allowance}"));
     (answer, frame)
+}
+
+/// What salvage tells, without the list that it holds.
+#[derive(Clone, Debug, PartialEq)]
+pub struct Salvaged {
+    pub words: Vec<Option<u32>>,
+    pub changes: Vec<Change>,
+}
+
+impl Salvaged {
+    fn of(salvage: Salvage) -> Salvaged {
+        let changes: Vec<Change> = salvage.changes().collect();
+        let octets = |c: &Change| [(c.position >> 8) as u8, c.position as u8, c.old, c.new];
+        assert_eq!(changes.iter().flat_map(octets).collect::<Vec<u8>>(), salvage.entries());
+        assert!(salvage.changes().rev().eq(changes.iter().rev().copied()));
+        assert_eq!(salvage.changes().len(), changes.len());
+        assert_eq!(salvage.is_whole(), salvage.words().iter().all(|count| count.is_some()));
+        Salvaged { words: salvage.words().to_vec(), changes }
+    }
+}
+
+/// The answer, and frame and list as they are afterwards.
+pub fn salvage(
+    words: Words,
+    allowance: u32,
+    block: &[u8],
+    before: &[u8],
+    listed: &[u8],
+) -> (Result<Salvaged, Refusal>, Vec<u8>, Vec<u8>) {
+    let call = |frame: &mut [u8], list: &mut [u8]| words.salvage(allowance, block, frame, list).map(Salvaged::of);
+    let ((answer, list), frame) = lent(before, |frame| lent(listed, |list| call(frame, list)));
+    let expected = code(words).salvage(allowance.into(), block, before, listed);
+    let case = format!("{words:?}, allowance {allowance}");
+    assert_eq!(numbers(&answer), (expected.number, 0), "{case}");
+    assert!((&frame, &list) == (&expected.frame, &expected.list), "{case}");
+    if let Ok(salvaged) = &answer {
+        let told = |w: usize| (expected.marks[w] == 1).then_some(expected.counts[w] as u32);
+        assert_eq!(salvaged.words, (0..words.depth as usize).map(told).collect::<Vec<_>>(), "{case}");
+        assert_eq!(salvaged.changes.len(), expected.entries, "{case}");
+    }
+    (answer, frame, list)
 }
 
 /// The answer, and the marked block as it is afterwards.

@@ -54,6 +54,23 @@ fn encode_and_decode() {
     decoded.demand("decode, limits", &[0, 1, 2, 3, 4, 5, 6, 10], 100);
 }
 
+/// A list one octet or one entry too short or too long, as long as the block, or empty, beside the other faults.
+#[test]
+fn salvage() {
+    let draw = Draw::new(23);
+    let mut tally = Tally::default();
+    for _ in 0..8000 {
+        let words = any_words(&draw);
+        let frame_len = any_len(&draw, words.frame_len().ok());
+        let block_len = any_len(&draw, words.block_len().ok());
+        let n = 4 * block_len;
+        let list_len = draw.mostly(&[n], &[0, 1, block_len, n + 1, n + 4, n.max(4) - 1, n.max(4) - 4, 8160]);
+        let (block, frame, list) = (draw.octets(block_len), draw.octets(frame_len), draw.octets(list_len));
+        tally.count(&both::salvage(words, any_allowance(&draw, words), &block, &frame, &list).0);
+    }
+    tally.demand("salvage, limits", &[0, 1, 2, 3, 4, 5, 6], 100);
+}
+
 #[test]
 fn transmit_and_receive() {
     let draw = Draw::new(22);
@@ -92,6 +109,7 @@ fn lengths() {
                     (Ok(frame), Ok(block)) => {
                         assert_eq!(encode_number(e, i, q, frame as u64, block as u64), 0, "{words:?}");
                         assert_eq!(words.checks_len(), Ok(block - frame));
+                        assert_eq!(words.list_len(), Ok(4 * block));
                         assert_eq!(Chain { words, randomised: true }.marked_len(), Ok(block + 4));
                     }
                     (frame, block) => {
@@ -99,6 +117,7 @@ fn lengths() {
                         let refusal = frame.expect_err("no frame without a block");
                         assert_eq!(u64::from(refusal.number()), encode_number(e, i, q, 0, 0), "{words:?}");
                         assert_eq!(words.checks_len(), Err(refusal));
+                        assert_eq!(words.list_len(), Err(refusal));
                         assert_eq!(Chain { words, randomised: true }.marked_len(), Err(refusal));
                     }
                 }

@@ -14,4 +14,5 @@ mod limits;
 mod marker;
 mod portions;
 mod randomiser;
+mod salvage;
 mod tally;

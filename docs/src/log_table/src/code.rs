@@ -86,4 +86,9 @@ impl Code {
         demand(block == self.block_len(), Refusal::InputLength)?;
         demand(frame == self.frame_len(), Refusal::OutputLength)
     }
+
+    pub(crate) fn accept_salvage(self, s: u32, block: usize, frame: usize, list: usize) -> Result<(), Refusal> {
+        self.accept_decode(s, block, frame)?;
+        demand(list == 4 * block, Refusal::OutputLength)
+    }
 }

@@ -1,6 +1,6 @@
-//! The encoder and both decoders against the second program, which knows the code by other methods.
+//! The encoder, both decoders and both forms of salvage against the second program, which knows the code by other methods.
 
-use log_table::{decode, decode_by_coding_again, encode, Code, Counts, Refusal};
+use log_table::{decode, decode_by_coding_again, encode, salvage, salvage_by_coding_again, Code, Counts, Refusal};
 use second::blocks;
 
 /// Numbers that stand in for data, the same in every run.
@@ -73,6 +73,24 @@ fn decoded(code: Code, s: u32, block: &[u8], frame: usize) -> Outcome<Counts> {
     outcome
 }
 
+/// Salvages in both forms, and demands that both have the second program's outcome. The list is lent with other octets than the frame.
+fn salvaged(code: Code, s: u32, block: &[u8], frame: usize, list: usize) -> [Option<u32>; 8] {
+    let expected = second_of(code).salvage(s.into(), block, &untouched(frame), &vec![85; list]);
+    let marked = |w: usize| (expected.marks[w] == 1).then_some(expected.counts[w] as u32);
+    let counts = std::array::from_fn(marked);
+    for form in [salvage, salvage_by_coding_again] {
+        let (mut left, mut listed) = (untouched(frame), vec![85; list]);
+        let answer = form(code, s, block, &mut left, &mut listed);
+        let number = answer.map_or_else(Refusal::number, |_| 0);
+        assert_eq!(number, expected.number, "salvage, {code:?}, s {s}");
+        assert!(left == expected.frame && listed == expected.list, "what salvage left, {code:?}, s {s}");
+        if let Ok(salvage) = answer {
+            assert_eq!((salvage.counts, salvage.entries), (counts, expected.entries), "salvage, {code:?}, s {s}");
+        }
+    }
+    counts
+}
+
 fn all_codes() -> impl Iterator<Item = Code> {
     let fills = |e: u32| [0, 1, 100, 254 - 2 * e];
     let depths = |e: u32| [1, 2, 3, 4, 5, 8].into_iter().map(move |depth| (e, depth));
@@ -125,6 +143,28 @@ fn wrong_symbols_past_the_strength() {
     assert!(delivered > 20 && refused > 20, "delivered {delivered}, refused {refused}");
 }
 
+/// The same of salvage, with up to 2E wrong symbols in a word and at smaller allowances.
+#[test]
+fn some_words_past_the_allowance() {
+    let mut draw = Draw(5);
+    let (mut repaired, mut left) = (0, 0);
+    for code in all_codes().chain(all_codes()).chain(all_codes()) {
+        let frame = draw.octets(code.frame_len());
+        let mut received = coded(code, &frame, code.block_len()).left;
+        for word in 0..code.depth as usize {
+            let wrong = draw.below(code.e as usize + 1) * (1 + draw.below(2));
+            draw.damage(&mut received, code, word, wrong);
+        }
+        for s in [code.e, draw.below(code.e as usize) as u32] {
+            let counts = salvaged(code, s, &received, frame.len(), 4 * received.len());
+            let found = counts.iter().flatten().count();
+            repaired += found;
+            left += code.depth as usize - found;
+        }
+    }
+    assert!(repaired > 200 && left > 200, "repaired {repaired}, left {left}");
+}
+
 /// A codeword of the full code whose fill is not zero, sent without it. Up to E - 1 wrong symbols more leave it the nearest, and still it
 /// does not count: one of its errors is at no sent place.
 #[test]
@@ -167,6 +207,7 @@ fn refusals() {
         coded(code, &draw.octets(given), about(&mut draw, block));
         let given = about(&mut draw, block);
         let outcome = decoded(code, s, &draw.octets(given), about(&mut draw, frame));
+        salvaged(code, s, &draw.octets(given), about(&mut draw, frame), about(&mut draw, 4 * block));
         numbers[outcome.answer.map_or_else(Refusal::number, |_| 0) as usize] += 1;
     }
     for number in [1, 2, 3, 4, 5, 6, 10] {

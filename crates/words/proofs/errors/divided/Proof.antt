@@ -9,13 +9,18 @@ use Rattle.words.proofs.errors.divided.Statement.{statement}
 use Rattle.words.proofs.errors.divided.Tie as tie
 
 abbrev Inv-loop : tie.InvT-loop
-Inv-loop s lambda locators above₀ below₀ rest₀ j₀ above below rest j = (j ≤ length lambda) × Dividing 16 s lambda locators above below rest j
+Inv-loop s lambda locators division₀ j₀ division j = (j ≤ length lambda) × Dividing 16 s lambda locators (division .above) (division .below) (division .rest) j
 
 abbrev μ-loop : tie.MeasureT-loop
-μ-loop s lambda locators above₀ below₀ rest₀ j₀ above below rest j = j
+μ-loop s lambda locators division₀ j₀ division j = j
+
+undivided-requires : tie.Need-undivided-requires Inv-loop μ-loop
+undivided-requires c κs = search needs
 
 loop-holds : tie.Need-loop-holds Inv-loop μ-loop
-loop-holds c = (omega arith, dividing-starts 16 _ (c .before .before .args .lambda .now) _)
+loop-holds c =
+    let none = c .undivided .ensures in
+    (omega arith, rw (none .0, none .1, none .2) (dividing-starts 16 _ _ _))
 
 sub-j : tie.Need-sub-j Inv-loop μ-loop
 sub-j c = search needs
@@ -23,30 +28,22 @@ sub-j c = search needs
 term-requires : tie.Need-term-requires Inv-loop μ-loop
 term-requires c κs = search needs
 
-scaled-plus-requires : tie.Need-scaled-plus-requires Inv-loop μ-loop
-scaled-plus-requires c κs = search needs
+shared-slice-read-with-coefficient : tie.Need-shared-slice-read-with-coefficient Inv-loop μ-loop
+shared-slice-read-with-coefficient c = search needs
 
-times-plus-requires : tie.Need-times-plus-requires Inv-loop μ-loop
-times-plus-requires c κs = search needs
-
-shared-slice-read-with-symbol : tie.Need-shared-slice-read-with-symbol Inv-loop μ-loop
-shared-slice-read-with-symbol c = search needs
-
-with-symbol-requires : tie.Need-with-symbol-requires Inv-loop μ-loop
-with-symbol-requires c κs = search needs
+with-coefficient-requires : tie.Need-with-coefficient-requires Inv-loop μ-loop
+with-coefficient-requires c κs =
+    let now = c .before .before .before .loop in
+    (now .inv .1 .above-size, now .inv .1 .below-size, now .inv .1 .rest-size)
 
 loop-less : tie.Need-loop-less Inv-loop μ-loop
 loop-less c = search needs
 
 loop-again : tie.Need-loop-again Inv-loop μ-loop
 loop-again c =
-    let above = c .before .before .before .before .before .before in
-    let syndrome = above .before .before .before in
-    let top = syndrome .before .before in (
-      omega arith,
-      dividing-turn 16 _ _ _ _ _ _ (top .loop .j) (omega arith) (top .loop .inv .1) _ _ _ _ (syndrome .term .ensures) (above .scaled-plus .ensures)
-          (c .before .before .before .times-plus .ensures) (c .with-symbol .ensures),
-    )
+    let taken = c .with-coefficient .ensures in
+    let now = c .before .before .before .before .loop in
+    (omega arith, dividing-turn 16 _ _ _ _ _ _ (now .j) (omega arith) (now .inv .1) _ _ _ _ (c .before .before .term .ensures) (taken .above-is) (taken .below-is) (taken .rest-is))
 
 returns : tie.Need-returns Inv-loop μ-loop
 returns c =
@@ -59,13 +56,12 @@ divided-spec =
     (tie.spec
     Inv-loop
     μ-loop
+    undivided-requires
     loop-holds
     sub-j
     term-requires
-    scaled-plus-requires
-    times-plus-requires
-    shared-slice-read-with-symbol
-    with-symbol-requires
+    shared-slice-read-with-coefficient
+    with-coefficient-requires
     loop-less
     loop-again
     returns)
