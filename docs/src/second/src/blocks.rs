@@ -15,7 +15,7 @@ pub struct Code {
 
 impl Code {
     /// Symbol `Q + k` of word w is octet `k I + w`.
-    fn word(&self, octets: &[u8], w: usize) -> Vec<u8> {
+    pub fn word(&self, octets: &[u8], w: usize) -> Vec<u8> {
         let mut word = vec![0; self.q as usize];
         word.extend(octets.iter().skip(w).step_by(self.i as usize).map(|line| to_conventional(*line)));
         word

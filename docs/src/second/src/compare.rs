@@ -25,7 +25,7 @@ fn wrong_in(damage: Damage, e: usize, depth: usize, w: usize) -> usize {
 }
 
 /// Changes exactly `wrong` symbols of word w: each symbol in turn with the chance that is left for it.
-fn change(block: &mut [u8], depth: usize, w: usize, wrong: usize, seed: u32) -> u32 {
+pub fn change(block: &mut [u8], depth: usize, w: usize, wrong: usize, seed: u32) -> u32 {
     let symbols = block.len() / depth;
     let mut x = seed;
     let mut left = wrong;

@@ -17,5 +17,7 @@ pub mod portions;
 pub mod randomiser;
 pub mod reed_solomon;
 pub mod report;
+pub mod salvage;
+pub mod salvage_cases;
 pub mod symbols;
 pub mod word;

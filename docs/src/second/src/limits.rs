@@ -82,6 +82,14 @@ pub fn decode_number(e: u64, i: u64, q: u64, s: u64, block: u64, frame: u64) -> 
     first(&[1, 2, 3, 4, 5, 6], &incoming(outgoing(e, i, q, frame, block, 0), s, 0))
 }
 
+/// Salvage's number: decode's, then 6 for a list that has not four octets for each octet of the block.
+pub fn salvage_number(e: u64, i: u64, q: u64, s: u64, block: u64, frame: u64, list: u64) -> u64 {
+    match decode_number(e, i, q, s, block, frame) {
+        0 if list != 4 * block => 6,
+        number => number,
+    }
+}
+
 /// Receive's number but for 9 and 10.
 pub fn receive_number(e: u64, i: u64, q: u64, s: u64, t: u64, block: u64, frame: u64) -> u64 {
     first(&[1, 2, 3, 4, 8, 5, 6], &incoming(outgoing(e, i, q, frame, block, 4), s, t))

@@ -4,7 +4,7 @@
 
 use second::{
     chain, coder_cases, compare, likeliest_cases, limits, marker, portion_cases, randomiser, reed_solomon, report,
-    symbols,
+    salvage_cases, symbols,
 };
 
 fn main() {
@@ -18,6 +18,7 @@ fn main() {
             likeliest_cases::write_all();
             limits::write_all();
             reed_solomon::write_all();
+            salvage_cases::write_all();
             portion_cases::write_all();
             chain::write_all();
         }

@@ -108,31 +108,41 @@ fn key(e: usize, syndromes: &[u8]) -> (Polynomial, Polynomial) {
     (factor, remainder)
 }
 
-/// What Euclid's algorithm and Forney's formula propose for a full word. Nothing is promised of it.
-fn proposed(e: usize, word: &[u8]) -> Vec<u8> {
+/// What Euclid's algorithm and Forney's formula propose to add to a full word, each value with its place. Nothing is promised of it.
+fn proposed(e: usize, word: &[u8]) -> Vec<(usize, u8)> {
     let (locators, evaluator) = key(e, &syndromes(e, word));
     let slope = derivative(&locators);
-    let mut out = word.to_vec();
-    for (place, symbol) in out.iter_mut().enumerate() {
-        let x = locator(place);
-        let inverse = quotient(1, x);
-        if at(&locators, inverse) == 0 && at(&slope, inverse) != 0 {
-            // X^(1 - b) with b = 128 - E.
-            let scale = raised(inverse, 127 - e);
-            *symbol ^= product(scale, quotient(at(&evaluator, inverse), at(&slope, inverse)));
+    let value = |place: usize| {
+        let inverse = quotient(1, locator(place));
+        if at(&locators, inverse) != 0 || at(&slope, inverse) == 0 {
+            return 0;
         }
-    }
-    out
+        // X^(1 - b) with b = 128 - E.
+        let scale = raised(inverse, 127 - e);
+        product(scale, quotient(at(&evaluator, inverse), at(&slope, inverse)))
+    };
+    (0..word.len()).map(|place| (place, value(place))).filter(|error| error.1 != 0).collect()
 }
 
-/// The codeword with `fill` zeros in front that differs from a full word in at most s <= E places, and in how many.
-/// The proposal counts only if it is one: all its values at the zeros vanish, its fill is zero, and it is near enough.
-pub fn nearest(e: usize, fill: usize, s: usize, word: &[u8]) -> Option<(Vec<u8>, usize)> {
-    let codeword = proposed(e, word);
-    let differing = codeword.iter().zip(word).filter(|(a, b)| a != b).count();
+fn added(word: &[u8], errors: &[(usize, u8)]) -> Vec<u8> {
+    let mut sum = word.to_vec();
+    errors.iter().for_each(|(place, value)| sum[*place] ^= value);
+    sum
+}
+
+/// The errors of a full word, each value with its place, against the codeword with `fill` zeros in front that differs from it in at most
+/// s <= E places. The proposal counts only if it leads to one: all values at the zeros vanish, the fill is zero, and it is near enough.
+pub fn errors(e: usize, fill: usize, s: usize, word: &[u8]) -> Option<Vec<(usize, u8)>> {
+    let errors = proposed(e, word);
+    let codeword = added(word, &errors);
     let is_codeword = syndromes(e, &codeword).iter().all(|v| *v == 0);
     let is_filled = codeword[..fill].iter().all(|c| *c == 0);
-    (is_codeword && is_filled && differing <= s).then_some((codeword, differing))
+    (is_codeword && is_filled && errors.len() <= s).then_some(errors)
+}
+
+/// That codeword, and in how many places it differs.
+pub fn nearest(e: usize, fill: usize, s: usize, word: &[u8]) -> Option<(Vec<u8>, usize)> {
+    errors(e, fill, s, word).map(|errors| (added(word, &errors), errors.len()))
 }
 
 #[cfg(test)]
