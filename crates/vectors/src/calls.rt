@@ -1,4 +1,5 @@
-// Encode, in one call and in portions, decode, transmit, receive, convolve and its decoding, each with the line that its outcome makes.
+// Encode, in one call and in portions, decode, salvage, transmit, receive, convolve and its decoding, each with the line that its
+// outcome makes.
 use crate::print;
 use chain::Received;
 use chain::Stage;
@@ -51,6 +52,41 @@ pub(crate) fn decode(e: u32, depth: u32, fill: u32, s: u32, block: &[u8], frame:
     let counts = decoding.counts;
     print::numbers(&counts);
     print::buffer(frame);
+    print::end();
+}
+
+// The octets of so many entries, and what stands behind them.
+fn entries(list: &[u8], entries: u32) {
+    let end = 4 * entries as usize;
+    let n = list.len();
+    if end <= n {
+        print::octets(&list[0..end]);
+        print::buffer(&list[end..n]);
+    }
+}
+
+pub(crate) fn salvage(
+    e: u32,
+    depth: u32,
+    fill: u32,
+    s: u32,
+    block: &[u8],
+    frame: &mut [u8],
+    list: &mut [u8],
+) {
+    print::text(b"salvage");
+    code(e, depth, fill);
+    print::number(s as u64);
+    let report = reed_solomon::salvage(e, depth, fill, s, block, &mut *frame, &mut *list);
+    let verdict = report.answer;
+    print::verdict(verdict);
+    let marks = report.marks;
+    print::numbers(&marks);
+    let counts = report.counts;
+    print::numbers(&counts);
+    print::number(report.entries as u64);
+    print::buffer(frame);
+    entries(list, report.entries);
     print::end();
 }
 

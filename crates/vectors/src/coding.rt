@@ -5,7 +5,7 @@ use crate::calls;
 use crate::print;
 
 // Every octet from `start` on, before `end`, becomes the given one.
-fn put(s: &mut [u8], start: usize, end: usize, octet: u8) {
+pub(crate) fn put(s: &mut [u8], start: usize, end: usize, octet: u8) {
     if end <= s.len() {
         for at in start..end {
             s[at] = octet;

@@ -10,6 +10,7 @@ mod marking;
 mod portioning;
 mod print;
 mod randomising;
+mod salvaging;
 mod symbols;
 
 fn main() {
@@ -20,6 +21,7 @@ fn main() {
     likeliest::all();
     limits::all();
     coding::all();
+    salvaging::all();
     portioning::all();
     chaining::all();
 }

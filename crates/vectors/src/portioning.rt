@@ -6,8 +6,9 @@ use crate::print;
 use frame_portions::Progress;
 use frame_portions::Row;
 
-fn interleaved(symbols: u32, depth: u32) -> u32
+pub(crate) fn interleaved(symbols: u32, depth: u32) -> u32
     requires { ⌜ symbols ≤ 255 ⌝ }
+    ensures { λ r. ⌜ (symbols ≤ r) × (r ≤ 2040) ⌝ }
 {
     match depth {
         1 => symbols,

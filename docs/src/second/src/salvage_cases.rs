@@ -77,11 +77,11 @@ fn codes() {
     }
 }
 
-/// Three words, the third with E wrong symbols, at allowances about the numbers of these, and one past E.
+/// Three words, the third with E wrong symbols, at the allowances about their numbers, and one past E.
 fn allowances(e: u64, first: u64, second: u64) {
     let code = Code { e, i: 3, q: 200 };
     let block = encoded(code, 67);
-    for s in [0, first - 1, first, second - 1, second, e - 1, e, e + 1] {
+    for s in [first - 1, first, second - 1, second, e - 1, e, e + 1] {
         write_worn(code, s, [first as usize, second as usize, e as usize, 0, 0, 0, 0, 0], &block);
     }
 }
