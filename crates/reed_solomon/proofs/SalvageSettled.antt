@@ -12,7 +12,7 @@ use Rattle.refusals.specs.Numbers.{verdictNumber}
 use Rattle.refusals.specs.Calls.{salvageOrder}
 use Rattle.refusals.specs.declared.Verdict.{Verdict}
 use Rattle.refusals.proofs.Settled.{salvage-parameters-settled}
-use Rattle.codewords.specs.Words.{Good, differing, withFill}
+use Rattle.codewords.specs.Words.{differing, withFill}
 use Rattle.codewords.proofs.Codewords.{good-unique, good-more-allowance}
 use Rattle.encoding.specs.Blocks.{sentFrom}
 use Rattle.reed_solomon.specs.Changes.{changesFrom}

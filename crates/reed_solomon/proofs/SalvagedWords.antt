@@ -15,7 +15,7 @@ use Rattle.refusals.proofs.Legal.{strength-bounds}
 use Rattle.field.specs.Field.{_⊕_}
 use Rattle.field.proofs.Sum.{⊕-is, ⊕-zero}
 use Rattle.codewords.specs.Words.{withFill, Good, differing}
-use Rattle.words.specs.Outcome.{fillOf, repaired, WordOutcome}
+use Rattle.words.specs.Outcome.{repaired, WordOutcome}
 use Rattle.words.proofs.Arrays.{zero-at}
 use Rattle.encoding.specs.Blocks.{sentFrom}
 use Rattle.reed_solomon.specs.DecoderWorking.{Put, Fitting}
@@ -107,14 +107,14 @@ module _ (e i q s : ℕ) (block : List ℕ) where
 -- ---- marks alone
 
 pub marks-start : MarksSet 0 (replicate 8 0)
-marks-start = record { set = λ v h. absurd (omega arith); beyond = λ v h. zero-at 8 v; size = refl }
+marks-start = record { marked = λ v h. absurd (omega arith); beyond = λ v h. zero-at 8 v; size = refl }
 
 pub marks-turn : (w : ℕ) (marks : List ℕ) → w < 8 → MarksSet w marks → MarksSet (w + 1) (set marks w 1)
 marks-turn w marks inside M =
     record {
-      set = λ v h. elim (ℕ-discrete v w) [
+      marked = λ v h. elim (ℕ-discrete v w) [
         | yes e ↦ ap (λ (n : ℕ). getD (set marks w 1) n 0) e ∙ getD-set-same marks w 1 0 (omega (arith, M .size))
-        | no d ↦ getD-set-other marks w v 1 0 d ∙ M .set v (omega arith)
+        | no d ↦ getD-set-other marks w v 1 0 d ∙ M .marked v (omega arith)
       ];
       beyond = λ v h. getD-set-other marks w v 1 0 (omega arith) ∙ M .beyond v (omega arith);
       size = length-set marks w 1 ∙ M .size;

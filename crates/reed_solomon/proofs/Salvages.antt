@@ -3,7 +3,6 @@ use mathlib.Core.Path.{_≡_, refl, sym, ap, ap₂, _∙_, subst}
 use mathlib.Core.Logic.{inl}
 use mathlib.Core.List.{List, [], _∷_, _++_}
 use Prim.Native.Nat.{ℕ, suc, _+_, _-_, _*_, _≤_, _<_}
-use native.Mathlib.Nat.{mul-le-mul-right}
 use native.Mathlib.Omega.{arith}
 use lib.ListN.{length, take, drop, getD, replicate}
 use lib.Seq.{getD-take, length-take-le, take-all, take-take}
@@ -24,7 +23,7 @@ use Rattle.encoding.specs.Rows.{noRows}
 use Rattle.encoding.specs.Rows.{RowsOn}
 use Rattle.reed_solomon.specs.DecoderWorking.{Standing}
 use Rattle.reed_solomon.specs.Changes.{changesFrom}
-use Rattle.reed_solomon.specs.Salvaging.{WordSalvaged, Salvaged, SalvageOutcome}
+use Rattle.reed_solomon.specs.Salvaging.{WordSalvaged, SalvageOutcome}
 use Rattle.reed_solomon.specs.SalvageWorking.{WordsPut, MarksSet, Listed}
 use Rattle.encoding.proofs.Interleaving.{place-below, sent-same}
 use Rattle.reed_solomon.proofs.Deliveries.{LegalBlock, legal-block, coded-room, standing-good}
@@ -144,7 +143,7 @@ module _ (e i q s : ℕ) (block before listed : List ℕ) where
               repaired = block;
               size = refl;
               words = λ w h. inl (record {
-                marked = told .1 .set w h;
+                marked = told .1 .marked w h;
                 good = standing-good e i q s block before (salvage-decodes e i q s (length block) (length before) (length listed) f) octets rows R S w h;
                 counted = zero-count w ∙ sym (differing-self (wordOf i q block w));
               });

@@ -1,5 +1,5 @@
 -- The rows of checks that a block's own front gives: the loops that look whether they stand behind it, and what they make of each word.
-use mathlib.Core.Path.{_≡_, sym, ap, ap₂, _∙_, subst}
+use mathlib.Core.Path.{_≡_, sym, ap, _∙_, subst}
 use mathlib.Core.List.{List, [], _++_}
 use Prim.Native.Nat.{ℕ, _+_, _-_, _*_, _≤_, _<_}
 use native.Mathlib.Nat.{mod-eq-of-lt}

@@ -22,7 +22,7 @@ pub record WordsPut (e i q s : ℕ) (block : List ℕ) (w : ℕ) (marks counts a
 
 -- The first w of eight marks are set.
 pub record MarksSet (w : ℕ) (marks : List ℕ) : Type 0 where
-  pub set : (v : ℕ) → v < w → getD marks v 0 ≡ 1
+  pub marked : (v : ℕ) → v < w → getD marks v 0 ≡ 1
   pub beyond : (v : ℕ) → w ≤ v → getD marks v 0 ≡ 0
   pub size : length marks ≡ 8
 

@@ -3,10 +3,9 @@ use mathlib.Core.Path.{_≡_, refl, sym, ap, ap₂, _∙_}
 use mathlib.Core.List.{List, _++_, map}
 use Prim.Native.Nat.{ℕ, _+_, _-_, _≤_, _<_}
 use native.Mathlib.Numerals.{add-one}
-use native.Mathlib.Decide.{decLt, ℕ-discrete}
 use native.Mathlib.Omega.{arith}
-use lib.ListN.{length, getD, take, drop, set, drop-of-length-le, length-drop, length-set, replicate, length-replicate, take-append-drop}
-use lib.Seq.{drop-cons, getD-set-same, getD-set-other, getD-take, ext-getD, length-take-le, take-all}
+use lib.ListN.{length, getD, take, drop, drop-of-length-le, length-drop, replicate, length-replicate, take-append-drop}
+use lib.Seq.{drop-cons, getD-take, ext-getD, length-take-le, take-all}
 use Rattle.field.specs.Field.{_⊕_, _·_}
 use Rattle.field.specs.Line.{toConventional}
 use Rattle.codewords.specs.Words.{Octets, valueAt}

@@ -5,7 +5,6 @@ use native.Mathlib.Omega.{arith}
 use lib.ListN.{length}
 use Rattle.reed_solomon.specs.SalvageWorking.{Listed}
 use Rattle.reed_solomon.proofs.ChangeLists.{listed-start}
-use borrow.Author.Needs.{needs}
 use Rattle.reed_solomon.proofs.listing.put_changes.Statement.{statement}
 use Rattle.reed_solomon.proofs.listing.put_changes.Tie as tie
 

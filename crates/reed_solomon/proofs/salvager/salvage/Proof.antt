@@ -1,6 +1,6 @@
 -- `salvage` refuses before it works, hands a block that is coded as it stands on as it is, or salvages the words into a local list, whose front is the
 -- frame and whose changes are listed.
-use mathlib.Core.Path.{refl, sym}
+use mathlib.Core.Path.{sym}
 use native.Mathlib.Omega.{arith}
 use lib.ListN.{length}
 use lib.Seq.{length-take-le}

@@ -1,5 +1,5 @@
 -- `difference`: before symbol k those before it stand with the row's octets added, and zeros elsewhere.
-use mathlib.Core.Path.{_≡_, refl}
+use mathlib.Core.Path.{_≡_}
 use Prim.Native.Nat.{_≤_, _-_}
 use native.Mathlib.Omega.{arith}
 use borrow.Author.Needs.{needs}
