@@ -1,5 +1,6 @@
 -- `rows_entered` gives the rows as they were where symbols may not enter, and else those that `enter` leaves.
 use mathlib.Core.Path.{refl}
+use native.Mathlib.Omega.{arith}
 use Rattle.refusals.proofs.Orders.{denied, granted}
 use Rattle.encoding.specs.Rows.{MayEnter}
 use borrow.Author.Needs.{needs}
@@ -21,7 +22,7 @@ may : (c : tie.After-after) → MayEnter (c .before .before .before .before .arg
 may c = granted (c .before .before .may-enter .result) (MayEnter (c .before .before .before .before .args .e) (c .before .before .before .before .args .depth) (c .before .before .before .before .args .first)) (c .before .if1 .left) (c .before .before .may-enter .ensures)
 
 enter-requires : tie.Need-enter-requires
-enter-requires c κs = (may c .strength, may c .within, may c .deep, search needs)
+enter-requires c κs = (may c .strength, omega (arith, may c .within), may c .deep, search needs)
 
 -- entered
 returns-2 : tie.Need-returns-2
