@@ -12,7 +12,7 @@ checks-fit-requires c κs = search needs
 
 -- not written
 returns : tie.Need-returns
-returns c = record { whenFit = λ f. absurd (denied (c .before .checks-fit .result) (ChecksFit _ _ _) (c .if1 .taken) (c .before .checks-fit .ensures) f); whenNot = λ n. refl }
+returns c = record { whenNot = λ n. refl; whenFit = λ f. absurd (denied (c .before .checks-fit .result) (ChecksFit _ _ _) (c .if1 .taken) (c .before .checks-fit .ensures) f) }
 
 fit : (c : tie.Else1) → ChecksFit (c .before .before .before .args .depth) (c .before .before .before .args .start) (length (c .before .before .before .args .block .now))
 fit c = granted (c .before .checks-fit .result) (ChecksFit _ _ _) (c .if1 .left) (c .before .checks-fit .ensures)
