@@ -5,11 +5,11 @@ use Rattle.codewords.specs.Words.{Octets, differing}
 use Rattle.encoding.specs.Blocks.{word_of, sum}
 
 -- The burst figure of strength e and depth i, in sent symbols and in bits.
-abbrev pub burstSymbols : ℕ → ℕ → ℕ
-burstSymbols e i = e * i
+abbrev pub burst_symbols : ℕ → ℕ → ℕ
+burst_symbols e i = e * i
 
-abbrev pub burstBits : ℕ → ℕ → ℕ
-burstBits e i = 8 * (e * i - 1) + 1
+abbrev pub burst_bits : ℕ → ℕ → ℕ
+burst_bits e i = 8 * (e * i - 1) + 1
 
 -- Place m is none of the n places from p on.
 abbrev pub Outside : ℕ → ℕ → ℕ → Type 0

@@ -8,28 +8,28 @@ use native.Mathlib.Omega.{arith}
 use lib.ListN.{length, take, drop, length-append, length-drop, drop_of_length-le}
 use lib.Seq.{take_all, drop_at, length-take-le}
 use borrow.Rule.Slice.PartMut.{mid_of, put_mid, same_len_mid}
-use Rattle.octets.specs.Copies.{copiedOver}
-use Rattle.octets.proofs.Laws.{copied-fitting}
+use Rattle.octets.specs.Copies.{copied_over}
+use Rattle.octets.proofs.Laws.{copied_fitting}
 use Rattle.refusals.specs.Order.{FirstOf}
-use Rattle.refusals.specs.Sizes.{frameLength, blockLength, markedLength}
-use Rattle.refusals.specs.Numbers.{verdictNumber}
-use Rattle.refusals.specs.Calls.{encodeOrder, transmitOrder}
+use Rattle.refusals.specs.Sizes.{frame_length, block_length, marked_length}
+use Rattle.refusals.specs.Numbers.{verdict_number}
+use Rattle.refusals.specs.Calls.{encode_order, transmit_order}
 use Rattle.refusals.specs.declared.Parameter.{Parameter}
 use Rattle.refusals.specs.declared.Verdict.{Verdict}
 use Rattle.refusals.specs.declared.Verdict.TheVariants.{Accepted, Refused}
-use Rattle.refusals.proofs.Orders.{Clear, accepted-clear, clear-accepted, not-different, first-unique}
-use Rattle.refusals.proofs.Verdicts.{parameter-nonzero, same-verdict, passed}
-use Rattle.refusals.proofs.Legal.{LegalWords, legal-words}
+use Rattle.refusals.proofs.Orders.{Clear, accepted_clear, clear_accepted, not_different, first_unique}
+use Rattle.refusals.proofs.Verdicts.{parameter_nonzero, same_verdict, passed}
+use Rattle.refusals.proofs.Legal.{LegalWords, legal_words}
 use Rattle.marker.specs.Place.{marker}
 use Rattle.encoding.specs.Outcome.{EncodeOutcome}
-use Rattle.encoding.proofs.CodedBlocks.{EncodeLegal, encode-legal}
-use Rattle.chain.specs.Outcome.{randomisedIf, TransmitOutcome}
+use Rattle.encoding.proofs.CodedBlocks.{EncodeLegal, encode_legal}
+use Rattle.chain.specs.Outcome.{randomised_if, TransmitOutcome}
 use Rattle.chain.proofs.Opening.{randomised-length}
 
 -- ---- lengths
 
-pub block-most : (e i q : ℕ) → LegalWords e i q → blockLength i q ≤ 2040
-block-most e i q L = mul-le-mul most L.deep
+pub block_most : (e i q : ℕ) → LegalWords e i q → block_length i q ≤ 2040
+block_most e i q L = mul-le-mul most L.deep
   where
     most : 255 - q ≤ 255
     most = omega arith
@@ -37,114 +37,114 @@ block-most e i q L = mul-le-mul most L.deep
 -- What is known once every check of transmit has passed.
 pub record TransmitLegal (e i q frame marked : ℕ) : Type 0 where
   pub words : LegalWords e i q
-  pub input : frame ≡ frameLength e i q
-  pub output : marked ≡ markedLength i q
+  pub input : frame ≡ frame_length e i q
+  pub output : marked ≡ marked_length i q
 
-pub transmit-clear : (e i q frame marked : ℕ) → FirstOf (transmitOrder e i q frame marked) 0 → Clear (transmitOrder e i q frame marked)
-transmit-clear e i q frame marked =
-    accepted-clear (transmitOrder e i q frame marked) (omega arith, (omega arith, (omega arith, (omega arith, (omega arith, tt)))))
+pub transmit_clear : (e i q frame marked : ℕ) → FirstOf (transmit_order e i q frame marked) 0 → Clear (transmit_order e i q frame marked)
+transmit_clear e i q frame marked =
+    accepted_clear (transmit_order e i q frame marked) (omega arith, (omega arith, (omega arith, (omega arith, (omega arith, tt)))))
 
-pub transmit-legal : (e i q frame marked : ℕ) → FirstOf (transmitOrder e i q frame marked) 0 → TransmitLegal e i q frame marked
-transmit-legal e i q frame marked f =
-    let clear : Clear (transmitOrder e i q frame marked) = transmit-clear e i q frame marked f in
+pub transmit_legal : (e i q frame marked : ℕ) → FirstOf (transmit_order e i q frame marked) 0 → TransmitLegal e i q frame marked
+transmit_legal e i q frame marked f =
+    let clear : Clear (transmit_order e i q frame marked) = transmit_clear e i q frame marked f in
     record {
-      words = legal-words e i q (clear.0, (clear.1.0, (clear.1.1.0, tt)));
-      input = not-different frame (frameLength e i q) clear.1.1.1.0;
-      output = not-different marked (markedLength i q) clear.1.1.1.1.0;
+      words = legal_words e i q (clear.0, (clear.1.0, (clear.1.1.0, tt)));
+      input = not_different frame (frame_length e i q) clear.1.1.1.0;
+      output = not_different marked (marked_length i q) clear.1.1.1.1.0;
     }
 
 -- What transmit accepts, encode accepts for a block that is four octets shorter.
-pub block-passes : (e i q frame marked block : ℕ) → marked ≡ block + 4 → FirstOf (transmitOrder e i q frame marked) 0 → FirstOf (encodeOrder e i q frame block) 0
-block-passes e i q frame marked block size f =
-    let clear : Clear (transmitOrder e i q frame marked) = transmit-clear e i q frame marked f in
-    let legal : TransmitLegal e i q frame marked = transmit-legal e i q frame marked f in
-    clear-accepted (encodeOrder e i q frame block) (clear.0, (clear.1.0, (clear.1.1.0, (clear.1.1.1.0, ((λ n. n (omega (arith, legal.output))), tt)))))
+pub block_passes : (e i q frame marked block : ℕ) → marked ≡ block + 4 → FirstOf (transmit_order e i q frame marked) 0 → FirstOf (encode_order e i q frame block) 0
+block_passes e i q frame marked block size f =
+    let clear : Clear (transmit_order e i q frame marked) = transmit_clear e i q frame marked f in
+    let legal : TransmitLegal e i q frame marked = transmit_legal e i q frame marked f in
+    clear_accepted (encode_order e i q frame block) (clear.0, (clear.1.0, (clear.1.1.0, (clear.1.1.1.0, ((λ n. n (omega (arith, legal.output))), tt)))))
 
 -- ---- a part lent from octet 4 on, and back in its place
 
-tail-back : (list put : List ℕ) → put ++ drop (length list - 4) (drop 4 list) ≡ put
-tail-back list put = ap {B = List ℕ} (λ (rest : List ℕ). put ++ rest) (drop_of_length-le (drop 4 list) (le_of_eq (length-drop 4 list))) ∙ append-nil put
+tail_back : (list put : List ℕ) → put ++ drop (length list - 4) (drop 4 list) ≡ put
+tail_back list put = ap {B = List ℕ} (λ (rest : List ℕ). put ++ rest) (drop_of_length-le (drop 4 list) (le_of_eq (length-drop 4 list))) ∙ append-nil put
 
 put_back : (list put : List ℕ) → 4 ≤ length list → drop 4 (put_mid 4 (length list - 4) list put) ≡ put
-put_back list put fits = drop_at (take 4 list) (put ++ drop (length list - 4) (drop 4 list)) 4 (length-take-le 4 list fits) ∙ tail-back list put
+put_back list put fits = drop_at (take 4 list) (put ++ drop (length list - 4) (drop 4 list)) 4 (length-take-le 4 list fits) ∙ tail_back list put
 
 -- ---- transmit
 
-module _ (e i q : ℕ) (flag : Bool) (frame before : List ℕ) (v : Verdict) (first : FirstOf (transmitOrder e i q (length frame) (length before)) (verdictNumber v)) where
-  pub transmit-refuses : (p : Parameter) → v ≡ Refused p → TransmitOutcome e i q flag frame before (Refused p) before
-  transmit-refuses p is =
+module _ (e i q : ℕ) (flag : Bool) (frame before : List ℕ) (v : Verdict) (first : FirstOf (transmit_order e i q (length frame) (length before)) (verdict_number v)) where
+  pub transmit_refuses : (p : Parameter) → v ≡ Refused p → TransmitOutcome e i q flag frame before (Refused p) before
+  transmit_refuses p is =
       record {
-        number = same-verdict (transmitOrder e i q (length frame) (length before)) v (Refused p) is first;
+        number = same_verdict (transmit_order e i q (length frame) (length before)) v (Refused p) is first;
         size = refl;
         refused = λ n. refl;
-        accepted = λ z. absurd (parameter-nonzero p z);
+        accepted = λ z. absurd (parameter_nonzero p z);
       }
 
   module _ (is : v ≡ Accepted) where
-    passes : FirstOf (transmitOrder e i q (length frame) (length before)) 0
-    passes = passed (transmitOrder e i q (length frame) (length before)) v is first
+    passes : FirstOf (transmit_order e i q (length frame) (length before)) 0
+    passes = passed (transmit_order e i q (length frame) (length before)) v is first
 
-    pub marker-fits : 4 ≤ length before
-    marker-fits = omega (arith, (transmit-legal e i q (length frame) (length before) passes).output)
+    pub marker_fits : 4 ≤ length before
+    marker_fits = omega (arith, (transmit_legal e i q (length frame) (length before) passes).output)
 
     -- the part after the marker, as it is lent
     abbrev part : List ℕ
     part = mid_of 4 (length before - 4) before
 
-    part-is : part ≡ drop 4 before
-    part-is = take_all (length before - 4) (drop 4 before) (le_of_eq (length-drop 4 before))
+    part_is : part ≡ drop 4 before
+    part_is = take_all (length before - 4) (drop 4 before) (le_of_eq (length-drop 4 before))
 
-    part-size : length before ≡ length part + 4
-    part-size = omega (arith, ap length part-is, length-drop 4 before, marker-fits)
+    part_size : length before ≡ length part + 4
+    part_size = omega (arith, ap length part_is, length-drop 4 before, marker_fits)
 
-    accepted : FirstOf (encodeOrder e i q (length frame) (length part)) 0
-    accepted = block-passes e i q (length frame) (length before) (length part) part-size passes
+    accepted : FirstOf (encode_order e i q (length frame) (length part)) 0
+    accepted = block_passes e i q (length frame) (length before) (length part) part_size passes
 
     module _ (w : Verdict) (block : List ℕ) (C : EncodeOutcome e i q frame part w block) where
       -- Transmit's checks are encode's: encode refuses nothing that came so far.
-      pub never-refused : (p : Parameter) → w ≡ Refused p → ⊥
-      never-refused p refuses =
-          parameter-nonzero p
-          (ap verdictNumber (sym refuses) ∙ first-unique (encodeOrder e i q (length frame) (length part)) (verdictNumber w) 0 C.number accepted)
+      pub never_refused : (p : Parameter) → w ≡ Refused p → ⊥
+      never_refused p refuses =
+          parameter_nonzero p
+          (ap verdict_number (sym refuses) ∙ first_unique (encode_order e i q (length frame) (length part)) (verdict_number w) 0 C.number accepted)
 
       -- the marked block once the coded block is back in it
       abbrev coded : List ℕ
       coded = put_mid 4 (length before - 4) before block
 
-      marker-room : 4 ≤ length coded
-      marker-room = omega (arith, same_len_mid 4 (length before - 4) before block C.size, marker-fits)
+      marker_room : 4 ≤ length coded
+      marker_room = omega (arith, same_len_mid 4 (length before - 4) before block C.size, marker_fits)
 
-      module _ (marked : List ℕ) (copied : marked ≡ copiedOver marker coded) where
-        marked-is : marked ≡ marker ++ block
-        marked-is = copied ∙ copied-fitting marker coded marker-room ∙ ap {B = List ℕ} (λ (rest : List ℕ). marker ++ rest) (put_back before block marker-fits)
+      module _ (marked : List ℕ) (copied : marked ≡ copied_over marker coded) where
+        marked_is : marked ≡ marker ++ block
+        marked_is = copied ∙ copied_fitting marker coded marker_room ∙ ap {B = List ℕ} (λ (rest : List ℕ). marker ++ rest) (put_back before block marker_fits)
 
-        marked-size : length marked ≡ length block + 4
-        marked-size = omega (arith, ap length marked-is, length-append marker block)
+        marked_size : length marked ≡ length block + 4
+        marked_size = omega (arith, ap length marked_is, length-append marker block)
 
-        pub block-fits : 4 ≤ length marked
-        block-fits = omega (arith, marked-size)
+        pub block_fits : 4 ≤ length marked
+        block_fits = omega (arith, marked_size)
 
         lent_is : mid_of 4 (length marked - 4) marked ≡ block
-        lent_is = take_all (length marked - 4) (drop 4 marked) (le_of_eq (length-drop 4 marked)) ∙ ap (drop 4) marked-is
+        lent_is = take_all (length marked - 4) (drop 4 marked) (le_of_eq (length-drop 4 marked)) ∙ ap (drop 4) marked_is
 
-        pub lent-within : length (mid_of 4 (length marked - 4) marked) ≤ 2040
-        lent-within =
-            let legal : EncodeLegal e i q (length frame) (length part) = encode-legal e i q (length frame) (length part) accepted in
-            omega (arith, ap length lent_is, C.size, legal.output, block-most e i q legal.words)
+        pub lent_within : length (mid_of 4 (length marked - 4) marked) ≤ 2040
+        lent_within =
+            let legal : EncodeLegal e i q (length frame) (length part) = encode_legal e i q (length frame) (length part) accepted in
+            omega (arith, ap length lent_is, C.size, legal.output, block_most e i q legal.words)
 
-        pub transmit-accepts : w ≡ Accepted → (sent : List ℕ) → sent ≡ randomisedIf flag (mid_of 4 (length marked - 4) marked)
+        pub transmit_accepts : w ≡ Accepted → (sent : List ℕ) → sent ≡ randomised_if flag (mid_of 4 (length marked - 4) marked)
             → TransmitOutcome e i q flag frame before Accepted (put_mid 4 (length marked - 4) marked sent)
-        transmit-accepts yields sent is =
+        transmit_accepts yields sent is =
             record {
               number = passes;
-              size = ap length whole ∙ omega (arith, length-append marker (randomisedIf flag block), randomised-length flag block, C.size, part-size);
+              size = ap length whole ∙ omega (arith, length-append marker (randomised_if flag block), randomised-length flag block, C.size, part_size);
               refused = λ n. absurd (n refl);
-              accepted = λ z. record { block = block; coded = C.accepted (ap verdictNumber yields); sent = whole };
+              accepted = λ z. record { block = block; coded = C.accepted (ap verdict_number yields); sent = whole };
             }
           where
             front : take 4 marked ≡ marker
-            front = ap (take 4) marked-is
+            front = ap (take 4) marked_is
 
-            whole : put_mid 4 (length marked - 4) marked sent ≡ marker ++ randomisedIf flag block
+            whole : put_mid 4 (length marked - 4) marked sent ≡ marker ++ randomised_if flag block
             whole =
-                ap₂ {C = List ℕ} (λ (x y : List ℕ). x ++ y) front (tail-back marked sent ∙ is ∙ ap (randomisedIf flag) lent_is)
+                ap₂ {C = List ℕ} (λ (x y : List ℕ). x ++ y) front (tail_back marked sent ∙ is ∙ ap (randomised_if flag) lent_is)

@@ -2,14 +2,14 @@
 use Rattle.std.specs.Prelude.{◌≡◌, Bool, true, false, ◌≢◌, List, ◌++◌, ℕ, ◌≤◌, ◌<◌, length, drop, replicate}
 use Rattle.octets.specs.Bits.{inverted}
 use Rattle.refusals.specs.Order.{FirstOf}
-use Rattle.refusals.specs.Numbers.{parameterNumber, verdictNumber, markerNumber, markerValue, wordNumber, wordValue}
-use Rattle.refusals.specs.Calls.{transmitOrder, receiveParameters, receiveOrder}
+use Rattle.refusals.specs.Numbers.{parameter_number, verdict_number, marker_number, marker_value, word_number, word_value}
+use Rattle.refusals.specs.Calls.{transmit_order, receive_parameters, receive_order}
 use Rattle.refusals.specs.declared.Verdict.{Verdict}
 use Rattle.refusals.specs.declared.MarkerRefusal.TheVariants.{WrongBits}
 use Rattle.refusals.specs.declared.WordRefusal.TheVariants.{NoCodeword}
 use Rattle.marker.specs.declared.Form.{Form}
 use Rattle.marker.specs.declared.Form.TheVariants.{True, Complement}
-use Rattle.marker.specs.Place.{marker, formAt, fewestWrong}
+use Rattle.marker.specs.Place.{marker, form_at, fewest_wrong}
 use Rattle.randomiser.specs.Sequence.{randomised}
 use Rattle.reed_solomon.specs.declared.Decoded.{Decoded}
 use Rattle.reed_solomon.specs.declared.Decoded.TheVariants as decoded
@@ -20,14 +20,14 @@ use Rattle.chain.specs.declared.Received.{Received}
 use Rattle.chain.specs.declared.Received.TheVariants.{Delivered, Refused}
 
 -- A block is randomised if that is asked.
-abbrev pub randomisedIf : Bool → List ℕ → List ℕ
-randomisedIf true block = randomised block
-randomisedIf false block = block
+abbrev pub randomised_if : Bool → List ℕ → List ℕ
+randomised_if true block = randomised block
+randomised_if false block = block
 
 -- A block has all its bits inverted if that is asked.
-abbrev pub invertedIf : Bool → List ℕ → List ℕ
-invertedIf true block = inverted block
-invertedIf false block = block
+abbrev pub inverted_if : Bool → List ℕ → List ℕ
+inverted_if true block = inverted block
+inverted_if false block = block
 
 -- What follows a complemented marker is inverted.
 abbrev pub complemented : Form → Bool
@@ -35,73 +35,73 @@ complemented True = false
 complemented Complement = true
 
 -- A received block is opened: inverted if it was, and then randomised again if it was.
-abbrev pub openedIf : Bool → Bool → List ℕ → List ℕ
-openedIf turned flag block = randomisedIf flag (invertedIf turned block)
+abbrev pub opened_if : Bool → Bool → List ℕ → List ℕ
+opened_if turned flag block = randomised_if flag (inverted_if turned block)
 
 -- The block in a marked block, opened in a form of the marker and with a flag: what follows the marker's four octets.
 abbrev pub opened : Form → Bool → List ℕ → List ℕ
-opened form flag marked = openedIf (complemented form) flag (drop 4 marked)
+opened form flag marked = opened_if (complemented form) flag (drop 4 marked)
 
 -- The block as receive opens it: in the form that its marker is nearer to.
-abbrev pub blockIn : Bool → List ℕ → List ℕ
-blockIn flag marked = opened (formAt marked 0) flag marked
+abbrev pub block_in : Bool → List ℕ → List ℕ
+block_in flag marked = opened (form_at marked 0) flag marked
 
 -- Transmitted: a coded block of the frame, randomised if asked, with the marker in front.
 pub record Transmitted (e i q : ℕ) (flag : Bool) (frame marked : List ℕ) : Type 0 where
   pub block : List ℕ
   pub coded : Coded e i q frame block
-  pub sent : marked ≡ marker ++ randomisedIf flag block
+  pub sent : marked ≡ marker ++ randomised_if flag block
 
 -- Transmit checks in its order. After a refusal the marked block is as it was.
 pub record TransmitOutcome (e i q : ℕ) (flag : Bool) (frame before : List ℕ) (answer : Verdict) (after : List ℕ) : Type 0 where
-  pub number : FirstOf (transmitOrder e i q (length frame) (length before)) (verdictNumber answer)
+  pub number : FirstOf (transmit_order e i q (length frame) (length before)) (verdict_number answer)
   pub size : length after ≡ length before
-  pub refused : verdictNumber answer ≢ 0 → after ≡ before
-  pub accepted : verdictNumber answer ≡ 0 → Transmitted e i q flag frame after
+  pub refused : verdict_number answer ≢ 0 → after ≡ before
+  pub accepted : verdict_number answer ≡ 0 → Transmitted e i q flag frame after
 
 -- The number and the value of receive's answer are those of the stage that refused; 0 is delivered.
-abbrev pub receivedNumber : Received → ℕ
-receivedNumber Delivered = 0
-receivedNumber (Refused (Parameters p)) = parameterNumber p
-receivedNumber (Refused (Marker r)) = markerNumber r
-receivedNumber (Refused (Word r)) = wordNumber r
+abbrev pub received_number : Received → ℕ
+received_number Delivered = 0
+received_number (Refused (Parameters p)) = parameter_number p
+received_number (Refused (Marker r)) = marker_number r
+received_number (Refused (Word r)) = word_number r
 
-abbrev pub receivedValue : Received → ℕ
-receivedValue Delivered = 0
-receivedValue (Refused (Parameters p)) = 0
-receivedValue (Refused (Marker r)) = markerValue r
-receivedValue (Refused (Word r)) = wordValue r
+abbrev pub received_value : Received → ℕ
+received_value Delivered = 0
+received_value (Refused (Parameters p)) = 0
+received_value (Refused (Marker r)) = marker_value r
+received_value (Refused (Word r)) = word_value r
 
 -- Decode's answer as receive gives it: a refusal is one of the word stage.
-abbrev pub wordStage : Decoded → Received
-wordStage decoded.Delivered = Delivered
-wordStage (decoded.Refused r) = Refused (Word r)
+abbrev pub word_stage : Decoded → Received
+word_stage decoded.Delivered = Delivered
+word_stage (decoded.Refused r) = Refused (Word r)
 
 -- Which stage refuses with what: parameters with the first of their checks that is due, the marker with its fewest wrong bits, a word with its number.
 abbrev pub StageRefuses : ℕ → ℕ → ℕ → ℕ → ℕ → List ℕ → List ℕ → Received → Type 0
 StageRefuses e i q s t marked before Delivered = Unit
-StageRefuses e i q s t marked before (Refused (Parameters p)) = FirstOf (receiveParameters e i q s t (length marked) (length before)) (parameterNumber p)
-StageRefuses e i q s t marked before (Refused (Marker r)) = r ≡ WrongBits (fewestWrong marked 0)
+StageRefuses e i q s t marked before (Refused (Parameters p)) = FirstOf (receive_parameters e i q s t (length marked) (length before)) (parameter_number p)
+StageRefuses e i q s t marked before (Refused (Marker r)) = r ≡ WrongBits (fewest_wrong marked 0)
 StageRefuses e i q s t marked before (Refused (Word r)) = (w : ℕ) × (r ≡ NoCodeword w)
 
 -- As decode: receive's answer, report and frame are those of an outcome that decode's contract permits for the block.
 pub record AsDecode (e i q s : ℕ) (block before : List ℕ) (answer : Received) (counts : List ℕ) (total : ℕ) (after : List ℕ) : Type 0 where
   pub answered : Decoded
-  pub same : answer ≡ wordStage answered
+  pub same : answer ≡ word_stage answered
   pub outcome : DecodeOutcome e i q s block before answered counts total after
 
 -- Receive says that it inverted a block only where it delivers.
-abbrev pub saidInverted : Received → Bool → Bool
-saidInverted Delivered turned = turned
-saidInverted (Refused stage) turned = false
+abbrev pub said_inverted : Received → Bool → Bool
+said_inverted Delivered turned = turned
+said_inverted (Refused stage) turned = false
 
 -- Receive checks in its order. After a refusal the frame is as it was and the report is all zero; past the parameters and the marker,
 -- receive's outcome is decode's, of the block opened, and says whether it inverted it.
 pub record ReceiveOutcome (e i q s t : ℕ) (flag : Bool) (marked before : List ℕ) (answer : Received) (counts : List ℕ) (total : ℕ) (turned : Bool) (after : List ℕ) : Type 0 where
-  pub number : FirstOf (receiveOrder e i q s t (length marked) (length before) (fewestWrong marked 0) ((w : ℕ) × (w < i) × Lost e i q s (blockIn flag marked) w))
-      (receivedNumber answer)
+  pub number : FirstOf (receive_order e i q s t (length marked) (length before) (fewest_wrong marked 0) ((w : ℕ) × (w < i) × Lost e i q s (block_in flag marked) w))
+      (received_number answer)
   pub stage : StageRefuses e i q s t marked before answer
-  pub refused : receivedNumber answer ≢ 0 → (after ≡ before) × (counts ≡ replicate 8 0) × (total ≡ 0)
-  pub past : FirstOf (receiveParameters e i q s t (length marked) (length before)) 0 → fewestWrong marked 0 ≤ t
-      → AsDecode e i q s (blockIn flag marked) before answer counts total after
-  pub said : turned ≡ saidInverted answer (complemented (formAt marked 0))
+  pub refused : received_number answer ≢ 0 → (after ≡ before) × (counts ≡ replicate 8 0) × (total ≡ 0)
+  pub past : FirstOf (receive_parameters e i q s t (length marked) (length before)) 0 → fewest_wrong marked 0 ≤ t
+      → AsDecode e i q s (block_in flag marked) before answer counts total after
+  pub said : turned ≡ said_inverted answer (complemented (form_at marked 0))

@@ -1,7 +1,7 @@
 // Reception: marker, invert after a complemented one, randomise again if it was asked, decode.
 ghost use Rattle.std.specs.Prelude.{◌≡◌, false, ◌≤◌, length, replicate};
 ghost use Rattle.chain.specs.declared.Received.TheVariants as received;
-ghost use Rattle.chain.specs.Outcome.{openedIf, complemented, saidInverted, AsDecode, ReceiveOutcome};
+ghost use Rattle.chain.specs.Outcome.{opened_if, complemented, said_inverted, AsDecode, ReceiveOutcome};
 
 use crate::blocks::open_block;
 use crate::{Received, Reception, Stage};
@@ -42,7 +42,7 @@ fn decode_part(
     frame: &mut [u8],
 ) -> Reception
     requires { length block.now ≤ 2040 }
-    ensures { (AsDecode e depth fill s (openedIf inverted randomised block.now) frame.old result.answer result.counts result.total frame.new) × (result.inverted ≡ saidInverted result.answer inverted) }
+    ensures { (AsDecode e depth fill s (opened_if inverted randomised block.now) frame.old result.answer result.counts result.total frame.new) × (result.inverted ≡ said_inverted result.answer inverted) }
 {
     let n = block.len();
     let mut opened = [0u8; 2040];

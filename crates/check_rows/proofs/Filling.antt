@@ -18,9 +18,9 @@ module _ (f : ℕ → ℕ) (before : List ℕ) (start : ℕ) where
   pub filled-start : Filled f before start start before
   filled-start = record { size = refl; done = λ n h l. absurd (omega arith); front = λ n h. refl; rest = λ n h. refl }
 
-  pub filled-turn : (at : ℕ) (after next : List ℕ) (value : ℕ) → start ≤ at → at < length before → value ≡ f at → next ≡ set after at value
+  pub filled_turn : (at : ℕ) (after next : List ℕ) (value : ℕ) → start ≤ at → at < length before → value ≡ f at → next ≡ set after at value
       → Filled f before start at after → Filled f before start (at + 1) next
-  filled-turn at after next value from below is sets F =
+  filled_turn at after next value from below is sets F =
       record {
         size = ap length sets ∙ length-set after at value ∙ F.size;
         done = λ n h l. elim (ℕ_discrete n at) [
@@ -34,8 +34,8 @@ module _ (f : ℕ → ℕ) (before : List ℕ) (start : ℕ) where
       other : (n : ℕ) → (n ≡ at → ⊥) → get_or next n 0 ≡ get_or after n 0
       other n d = ap (λ (list : List ℕ). get_or list n 0) sets ∙ get_or-set_other after at n value 0 d
 
-pub filled-before : (f : ℕ → ℕ) (before after : List ℕ) (start at : ℕ) → Filled f before start at after → take start after ≡ take start before
-filled-before f before after start at F =
+pub filled_before : (f : ℕ → ℕ) (before after : List ℕ) (start at : ℕ) → Filled f before start at after → take start after ≡ take start before
+filled_before f before after start at F =
     ext_get_or 0 (take start after) (take start before) (length-take start after ∙ ap (λ (n : ℕ). min start n) F.size ∙ sym (length-take start before))
     (λ n h. get_or-take start after n 0 (below n h) ∙ F.front n (below n h) ∙ sym (get_or-take start before n 0 (below n h)))
   where

@@ -5,10 +5,10 @@ use Prim.Native.Nat.{ℕ, ◌+◌, ◌*◌, ◌/◌, ◌%◌, ◌<◌}
 use native.Mathlib.Omega.{arith}
 use lib.ListN.{get_or}
 use lib.Seq.{ext_get_or}
-use Rattle.check_rows.specs.Rows.{addedAt, table_at, SumTable, Stepped}
+use Rattle.check_rows.specs.Rows.{added_at, table_at, SumTable, Stepped}
 
-pub table-of-settled : (rows a b : List ℕ) → SumTable rows a → SumTable rows b → a ≡ b
-table-of-settled rows a b A B =
+pub table_of_settled : (rows a b : List ℕ) → SumTable rows a → SumTable rows b → a ≡ b
+table_of_settled rows a b A B =
     ext_get_or 0 a b (A.size ∙ sym B.size)
     (λ n l. ap (λ (k : ℕ). get_or a k 0) (place n) ∙ A.sums (n / 32) (n % 32) (row n (omega (arith, A.size))) (rest n)
     ∙ sym (B.sums (n / 32) (n % 32) (row n (omega (arith, A.size))) (rest n)) ∙ ap (λ (k : ℕ). get_or b k 0) (sym (place n)))
@@ -22,11 +22,11 @@ table-of-settled rows a b A B =
     rest : (n : ℕ) → n % 32 < 32
     rest n = omega arith
 
-pub stepped-settled : (adds : ℕ → ℕ → ℕ) (row : List ℕ) (symbol : ℕ) (a b : List ℕ) → Stepped adds row symbol a → Stepped adds row symbol b → a ≡ b
-stepped-settled adds row symbol a b A B = ext_get_or 0 a b (A.size ∙ sym B.size) (λ j h. A.octet j (omega (arith, A.size)) ∙ sym (B.octet j (omega (arith, A.size))))
+pub stepped_settled : (adds : ℕ → ℕ → ℕ) (row : List ℕ) (symbol : ℕ) (a b : List ℕ) → Stepped adds row symbol a → Stepped adds row symbol b → a ≡ b
+stepped_settled adds row symbol a b A B = ext_get_or 0 a b (A.size ∙ sym B.size) (λ j h. A.octet j (omega (arith, A.size)) ∙ sym (B.octet j (omega (arith, A.size))))
 
-pub stepped-by-bits-settled : (rows row : List ℕ) (symbol : ℕ) (a b : List ℕ) → Stepped (addedAt rows) row symbol a → Stepped (addedAt rows) row symbol b → a ≡ b
-stepped-by-bits-settled rows = stepped-settled (addedAt rows)
+pub stepped_by_bits_settled : (rows row : List ℕ) (symbol : ℕ) (a b : List ℕ) → Stepped (added_at rows) row symbol a → Stepped (added_at rows) row symbol b → a ≡ b
+stepped_by_bits_settled rows = stepped_settled (added_at rows)
 
-pub stepped-by-table-settled : (table row : List ℕ) (symbol : ℕ) (a b : List ℕ) → Stepped (table_at table) row symbol a → Stepped (table_at table) row symbol b → a ≡ b
-stepped-by-table-settled table = stepped-settled (table_at table)
+pub stepped_by_table_settled : (table row : List ℕ) (symbol : ℕ) (a b : List ℕ) → Stepped (table_at table) row symbol a → Stepped (table_at table) row symbol b → a ≡ b
+stepped_by_table_settled table = stepped_settled (table_at table)

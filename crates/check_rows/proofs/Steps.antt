@@ -8,16 +8,16 @@ use native.Mathlib.Decide.{ℕ_discrete}
 use native.Mathlib.Omega.{arith}
 use lib.ListN.{length, get_or, replicate, get_or-replicate, get_or-eq_default}
 use lib.Bits.{bit_and, bit_xor, and_mask, and_comm}
-use Rattle.field.specs.Field.{◌⊕◌, whereSet}
-use Rattle.field.specs.Line.{timesMatrix}
-use Rattle.field.proofs.Sum.{⊕-is, ⊕-assoc, ⊕-zero, ⊕-octet}
-use Rattle.check_rows.specs.Rows.{column, addedAt, table_at, SumTable, Stepped}
+use Rattle.field.specs.Field.{◌⊕◌, where_set}
+use Rattle.field.specs.Line.{times_matrix}
+use Rattle.field.proofs.Sum.{⊕_is, ⊕_assoc, ⊕-zero, ⊕_octet}
+use Rattle.check_rows.specs.Rows.{column, added_at, table_at, SumTable, Stepped}
 use Rattle.check_rows.specs.Working.{MovedUp, BitAdded, RowAdded}
 use Rattle.check_rows.proofs.Filling.{Filled}
-use Rattle.check_rows.proofs.Columns.{column-opened, column-none}
+use Rattle.check_rows.proofs.Columns.{column-opened, column_none}
 
-pub moved-end : (row moved : List ℕ) (at : ℕ) → at ≡ 31 → length row ≡ 32 → Filled (λ (n : ℕ). get_or row (n + 1) 0) (replicate 32 0) 0 at moved → MovedUp row moved
-moved-end row moved at e long F =
+pub moved_end : (row moved : List ℕ) (at : ℕ) → at ≡ 31 → length row ≡ 32 → Filled (λ (n : ℕ). get_or row (n + 1) 0) (replicate 32 0) 0 at moved → MovedUp row moved
+moved_end row moved at e long F =
     record {
       size = F.size;
       octet = λ j h. elim (ℕ_discrete j 31) [
@@ -26,25 +26,25 @@ moved-end row moved at e long F =
       ];
     }
 
-pub added-octet : (sum before octet : ℕ) → sum ≡ before → bit_xor sum octet ≡ before ⊕ octet
-added-octet sum before octet e = sym (⊕-is sum octet) ∙ ap (λ (x : ℕ). x ⊕ octet) e
+pub added_octet : (sum before octet : ℕ) → sum ≡ before → bit_xor sum octet ≡ before ⊕ octet
+added_octet sum before octet e = sym (⊕_is sum octet) ∙ ap (λ (x : ℕ). x ⊕ octet) e
 
 -- ---- a mask in place of a choice
 
-pub mask-listed : (bit : ℕ) → bit < 2 → get_or (0 ∷ 255 ∷ []) bit 0 ≡ 255 * bit
-mask-listed zero h = refl
-mask-listed (suc zero) h = refl
-mask-listed (suc (suc bit)) h = absurd (omega arith)
+pub mask_listed : (bit : ℕ) → bit < 2 → get_or (0 ∷ 255 ∷ []) bit 0 ≡ 255 * bit
+mask_listed zero h = refl
+mask_listed (suc zero) h = refl
+mask_listed (suc (suc bit)) h = absurd (omega arith)
 
-masked : (bit octet : ℕ) → bit < 2 → bit_and (255 * bit) octet ≡ whereSet bit (octet % 256)
-unfolding whereSet
+masked : (bit octet : ℕ) → bit < 2 → bit_and (255 * bit) octet ≡ where_set bit (octet % 256)
+unfolding where_set
 masked zero octet h = refl
 masked (suc zero) octet h = and_comm 255 octet ∙ and_mask octet 8
 masked (suc (suc bit)) octet h = absurd (omega arith)
 
-pub added-masked : (bit octet sum before mask : ℕ) → mask ≡ 255 * (bit % 2) → sum ≡ before → bit_xor sum (bit_and mask octet) ≡ before ⊕ whereSet (bit % 2) (octet % 256)
-added-masked bit octet sum before mask m e =
-    added-octet sum before (bit_and mask octet) e
+pub added_masked : (bit octet sum before mask : ℕ) → mask ≡ 255 * (bit % 2) → sum ≡ before → bit_xor sum (bit_and mask octet) ≡ before ⊕ where_set (bit % 2) (octet % 256)
+added_masked bit octet sum before mask m e =
+    added_octet sum before (bit_and mask octet) e
     ∙ ap (λ (x : ℕ). before ⊕ x) (ap (λ (k : ℕ). bit_and k octet) m ∙ masked (bit % 2) octet (mod-lt bit (omega arith)))
 
 -- ---- one bit after the other
@@ -52,51 +52,51 @@ added-masked bit octet sum before mask m e =
 -- a row with the bits before this one added
 pub record Added (rows : List ℕ) (feedback : ℕ) (row : List ℕ) (bit : ℕ) (sum : List ℕ) : Type 0 where
   pub size : length sum ≡ 32
-  pub octet : (j : ℕ) → j < 32 → get_or sum j 0 ⊕ timesMatrix (column rows j bit (8 - bit)) feedback ≡ get_or row j 0 ⊕ addedAt rows feedback j
+  pub octet : (j : ℕ) → j < 32 → get_or sum j 0 ⊕ times_matrix (column rows j bit (8 - bit)) feedback ≡ get_or row j 0 ⊕ added_at rows feedback j
 
 pub bits-start : (rows : List ℕ) (feedback : ℕ) (row : List ℕ) → length row ≡ 32 → Added rows feedback row 0 row
 bits-start rows feedback row long = record { size = long; octet = λ j h. refl }
 
-pub bits-turn : (rows : List ℕ) (feedback bit : ℕ) (row sum next : List ℕ) → bit < 8 → Added rows feedback row bit sum → BitAdded rows feedback bit sum next
+pub bits_turn : (rows : List ℕ) (feedback bit : ℕ) (row sum next : List ℕ) → bit < 8 → Added rows feedback row bit sum → BitAdded rows feedback bit sum next
     → Added rows feedback row (bit + 1) next
-bits-turn rows feedback bit row sum next h A B =
+bits_turn rows feedback bit row sum next h A B =
     record {
       size = B.size;
-      octet = λ j l. ap (λ (x : ℕ). x ⊕ rest j) (B.octet j l) ∙ ⊕-assoc (get_or sum j 0) (here j) (rest j) ∙ ap (λ (x : ℕ). get_or sum j 0 ⊕ x) (sym (split j)) ∙ A.octet j l;
+      octet = λ j l. ap (λ (x : ℕ). x ⊕ rest j) (B.octet j l) ∙ ⊕_assoc (get_or sum j 0) (here j) (rest j) ∙ ap (λ (x : ℕ). get_or sum j 0 ⊕ x) (sym (split j)) ∙ A.octet j l;
     }
   where
     rest : ℕ → ℕ
-    rest j = timesMatrix (column rows j (bit + 1) (8 - (bit + 1))) feedback
+    rest j = times_matrix (column rows j (bit + 1) (8 - (bit + 1))) feedback
 
     here : ℕ → ℕ
-    here j = whereSet (feedback / 2 ^ (7 - bit) % 2) (get_or rows (32 * bit + j) 0 % 256)
+    here j = where_set (feedback / 2 ^ (7 - bit) % 2) (get_or rows (32 * bit + j) 0 % 256)
 
-    split : (j : ℕ) → timesMatrix (column rows j bit (8 - bit)) feedback ≡ here j ⊕ rest j
+    split : (j : ℕ) → times_matrix (column rows j bit (8 - bit)) feedback ≡ here j ⊕ rest j
     split j =
-        ap (λ (n : ℕ). timesMatrix (column rows j bit n) feedback) (omega arith) ∙ column-opened rows feedback j bit (7 - bit)
-        ∙ ap₂ (λ (b n : ℕ). here j ⊕ timesMatrix (column rows j b n) feedback) (sym (add-one bit)) (omega arith)
+        ap (λ (n : ℕ). times_matrix (column rows j bit n) feedback) (omega arith) ∙ column-opened rows feedback j bit (7 - bit)
+        ∙ ap₂ (λ (b n : ℕ). here j ⊕ times_matrix (column rows j b n) feedback) (sym (add-one bit)) (omega arith)
 
 -- ---- the step
 
 pub bits-end : (rows : List ℕ) (feedback symbol bit : ℕ) (row moved sum : List ℕ) → bit ≡ 8 → feedback ≡ symbol ⊕ get_or row 0 0 → MovedUp row moved → Added rows feedback moved bit sum
-    → Stepped (addedAt rows) row symbol sum
+    → Stepped (added_at rows) row symbol sum
 bits-end rows feedback symbol bit row moved sum e f M A =
     record {
       size = A.size;
-      octet = λ j h. sym (⊕-zero (get_or sum j 0)) ∙ ap (λ (x : ℕ). get_or sum j 0 ⊕ x) (sym (column-none rows feedback j bit (8 - bit) (omega arith))) ∙ A.octet j h
-          ∙ ap₂ (λ (x y : ℕ). x ⊕ addedAt rows y j) (M.octet j h) f;
+      octet = λ j h. sym (⊕-zero (get_or sum j 0)) ∙ ap (λ (x : ℕ). get_or sum j 0 ⊕ x) (sym (column_none rows feedback j bit (8 - bit) (omega arith))) ∙ A.octet j h
+          ∙ ap₂ (λ (x y : ℕ). x ⊕ added_at rows y j) (M.octet j h) f;
     }
 
-pub table-end : (table : List ℕ) (feedback symbol : ℕ) (row moved sum : List ℕ) → feedback ≡ symbol ⊕ get_or row 0 0 → MovedUp row moved → RowAdded table feedback moved sum
+pub table_end : (table : List ℕ) (feedback symbol : ℕ) (row moved sum : List ℕ) → feedback ≡ symbol ⊕ get_or row 0 0 → MovedUp row moved → RowAdded table feedback moved sum
     → Stepped (table_at table) row symbol sum
-table-end table feedback symbol row moved sum f M A =
+table_end table feedback symbol row moved sum f M A =
     record { size = A.size; octet = λ j h. A.octet j h ∙ ap₂ (λ (x y : ℕ). x ⊕ table_at table y j) (M.octet j h) f }
 
 -- a table of eight rows steps as they do
-pub stepped-alike : (rows table row : List ℕ) (symbol : ℕ) (after : List ℕ) → SumTable rows table → symbol < 256 → get_or row 0 0 < 256
-    → Stepped (table_at table) row symbol after → Stepped (addedAt rows) row symbol after
-stepped-alike rows table row symbol after S h l A =
+pub stepped_alike : (rows table row : List ℕ) (symbol : ℕ) (after : List ℕ) → SumTable rows table → symbol < 256 → get_or row 0 0 < 256
+    → Stepped (table_at table) row symbol after → Stepped (added_at rows) row symbol after
+stepped_alike rows table row symbol after S h l A =
     record {
       size = A.size;
-      octet = λ j m. A.octet j m ∙ ap (λ (x : ℕ). get_or row (suc j) 0 ⊕ x) (S.sums (symbol ⊕ get_or row 0 0) j (⊕-octet symbol (get_or row 0 0) h l) m);
+      octet = λ j m. A.octet j m ∙ ap (λ (x : ℕ). get_or row (suc j) 0 ⊕ x) (S.sums (symbol ⊕ get_or row 0 0) j (⊕_octet symbol (get_or row 0 0) h l) m);
     }

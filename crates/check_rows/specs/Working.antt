@@ -1,6 +1,6 @@
 -- What building the table and moving a row do on the way: no public contract speaks of it.
 use Rattle.std.specs.Prelude.{◌≡◌, List, ℕ, suc, ◌+◌, ◌-◌, ◌*◌, ◌/◌, ◌%◌, ◌^◌, ◌<◌, length, get_or}
-use Rattle.field.specs.Field.{◌⊕◌, whereSet}
+use Rattle.field.specs.Field.{◌⊕◌, where_set}
 
 -- The row of one bit.
 pub record BitRow (rows : List ℕ) (bit : ℕ) (row : List ℕ) : Type 0 where
@@ -27,7 +27,7 @@ pub record MovedUp (row moved : List ℕ) : Type 0 where
 -- A row with what one bit of the feedback adds, where that bit is set.
 pub record BitAdded (rows : List ℕ) (feedback bit : ℕ) (row sum : List ℕ) : Type 0 where
   pub size : length sum ≡ 32
-  pub octet : (j : ℕ) → j < 32 → get_or sum j 0 ≡ get_or row j 0 ⊕ whereSet (feedback / 2 ^ (7 - bit) % 2) (get_or rows (32 * bit + j) 0 % 256)
+  pub octet : (j : ℕ) → j < 32 → get_or sum j 0 ≡ get_or row j 0 ⊕ where_set (feedback / 2 ^ (7 - bit) % 2) (get_or rows (32 * bit + j) 0 % 256)
 
 -- A row with the table's row of a feedback octet added.
 pub record RowAdded (table : List ℕ) (feedback : ℕ) (row sum : List ℕ) : Type 0 where

@@ -1,6 +1,6 @@
 // One symbol enters a row of check octets.
 ghost use Rattle.std.specs.Prelude.{◌≡◌, ◌*◌, ◌<◌};
-ghost use Rattle.check_rows.specs.Rows.{addedAt, table_at, Stepped};
+ghost use Rattle.check_rows.specs.Rows.{added_at, table_at, Stepped};
 ghost use Rattle.check_rows.specs.Working.{MovedUp, BitAdded, RowAdded};
 
 fn moved_up(row: [u8; 32]) -> [u8; 32]
@@ -38,7 +38,7 @@ fn with_bit(rows: &[u8; 256], feedback: u8, bit: usize, row: [u8; 32]) -> [u8; 3
 
 // By eight rows, for a few symbols: nothing is to be built for them.
 pub fn stepped_by_bits(rows: &[u8; 256], row: [u8; 32], symbol: u8) -> [u8; 32]
-    ensures { Stepped (addedAt rows.now) row symbol result }
+    ensures { Stepped (added_at rows.now) row symbol result }
 {
     let feedback = symbol ^ row[0];
     let mut sum = moved_up(row);

@@ -6,31 +6,31 @@ use Prim.Native.Nat.{ℕ, zero, suc, ◌+◌, ◌*◌, ◌≤◌}
 use native.Mathlib.Omega.{arith}
 use lib.ListN.{length, take, drop, get_or, replicate, length-map}
 use Rattle.field.specs.Field.{◌⊕◌, pow, alpha}
-use Rattle.field.specs.Line.{toConventional}
-use Rattle.field.proofs.Sum.{⊕-assoc, ⊕-self, ⊕-zero}
-use Rattle.codewords.specs.Words.{value_at, Codeword, differing, withFill, Good}
+use Rattle.field.specs.Line.{to_conventional}
+use Rattle.field.proofs.Sum.{⊕_assoc, ⊕_self, ⊕-zero}
+use Rattle.codewords.specs.Words.{value_at, Codeword, differing, with_fill, Good}
 use Rattle.codewords.specs.Polynomials.{◌⊞◌}
 use Rattle.codewords.proofs.Division.{⊞-octets}
-use Rattle.codewords.proofs.WordValues.{length-pair, value-⊞}
-use Rattle.codewords.proofs.LineWords.{conversion-⊞, unless-alike}
+use Rattle.codewords.proofs.WordValues.{length_pair, value_⊞}
+use Rattle.codewords.proofs.LineWords.{conversion_⊞, unless_alike}
 
 -- the code is linear
 pub codeword-⊞ : (e : ℕ) (u v : List ℕ) → Codeword e u → Codeword e v → Codeword e (u ⊞ v)
 codeword-⊞ e u v A B =
     record {
-      full = length-pair u v same ∙ A.full;
+      full = length_pair u v same ∙ A.full;
       octets = ⊞-octets u v A.octets B.octets;
       vanishes = λ j a b.
-          ap (λ (w : List ℕ). value_at w (pow alpha (11 * j))) (conversion-⊞ u v)
-          ∙ value-⊞ (map toConventional u) (map toConventional v) (pow alpha (11 * j)) (length-map u toConventional ∙ same ∙ sym (length-map v toConventional))
+          ap (λ (w : List ℕ). value_at w (pow alpha (11 * j))) (conversion_⊞ u v)
+          ∙ value_⊞ (map to_conventional u) (map to_conventional v) (pow alpha (11 * j)) (length-map u to_conventional ∙ same ∙ sym (length-map v to_conventional))
           ∙ ap₂ (λ (x y : ℕ). x ⊕ y) (A.vanishes j a b) (B.vanishes j a b) ∙ ⊕-zero 0;
     }
   where
     same : length u ≡ length v
     same = A.full ∙ sym B.full
 
-⊕-back : (a c : ℕ) → a ⊕ c ⊕ c ≡ a
-⊕-back a c = ⊕-assoc a c c ∙ ap (λ (x : ℕ). a ⊕ x) (⊕-self c) ∙ ⊕-zero a
+⊕_back : (a c : ℕ) → a ⊕ c ⊕ c ≡ a
+⊕_back a c = ⊕_assoc a c c ∙ ap (λ (x : ℕ). a ⊕ x) (⊕_self c) ∙ ⊕-zero a
 
 pub differing-⊞ : (u v x : List ℕ) → length u ≡ length x → length v ≡ length x → differing (u ⊞ x) (v ⊞ x) ≡ differing u v
 unfolding differing ◌⊞◌
@@ -40,7 +40,7 @@ differing-⊞ [] (b ∷ v) x h l = absurd (omega arith)
 differing-⊞ (a ∷ u) [] x h l = absurd (omega arith)
 differing-⊞ (a ∷ u) (b ∷ v) [] h l = absurd (omega arith)
 differing-⊞ (a ∷ u) (b ∷ v) (c ∷ x) h l =
-    ap₂ ◌+◌ (unless-alike (a ⊕ c) (b ⊕ c) a b ((λ p. sym (⊕-back a c) ∙ ap (λ (y : ℕ). y ⊕ c) p ∙ ⊕-back b c), (λ p. ap (λ (y : ℕ). y ⊕ c) p)))
+    ap₂ ◌+◌ (unless_alike (a ⊕ c) (b ⊕ c) a b ((λ p. sym (⊕_back a c) ∙ ap (λ (y : ℕ). y ⊕ c) p ∙ ⊕_back b c), (λ p. ap (λ (y : ℕ). y ⊕ c) p)))
     (differing-⊞ u v x (omega arith) (omega arith))
 
 -- words twice the same
@@ -49,7 +49,7 @@ unfolding ◌⊞◌
 ⊞-twice [] [] h = refl
 ⊞-twice [] (c ∷ x) h = absurd (omega arith)
 ⊞-twice (a ∷ r) [] h = absurd (omega arith)
-⊞-twice (a ∷ r) (c ∷ x) h = ap₂ {C = List ℕ} (λ (y : ℕ) (w : List ℕ). y ∷ w) (⊕-back a c) (⊞-twice r x (omega arith))
+⊞-twice (a ∷ r) (c ∷ x) h = ap₂ {C = List ℕ} (λ (y : ℕ) (w : List ℕ). y ∷ w) (⊕_back a c) (⊞-twice r x (omega arith))
 
 fill-⊞ : (q : ℕ) (u v : List ℕ) → take q u ≡ replicate q 0 → take q v ≡ replicate q 0 → take q (u ⊞ v) ≡ replicate q 0
 unfolding ◌⊞◌
@@ -62,13 +62,13 @@ fill-⊞ (suc q) (a ∷ u) (b ∷ v) h l =
     first : {w z : List ℕ} {c d : ℕ} → ◌≡◌ {A = List ℕ} (c ∷ w) (d ∷ z) → c ≡ d
     first e = ap (λ (w : List ℕ). get_or w 0 0) e
 
-pub filled-⊞ : (q : ℕ) (u v : List ℕ) → withFill q (u ⊞ v) ≡ withFill q u ⊞ withFill q v
+pub filled-⊞ : (q : ℕ) (u v : List ℕ) → with_fill q (u ⊞ v) ≡ with_fill q u ⊞ with_fill q v
 unfolding ◌⊞◌
 filled-⊞ zero u v = refl
 filled-⊞ (suc q) u v = ap₂ {C = List ℕ} (λ (y : ℕ) (w : List ℕ). y ∷ w) (sym (⊕-zero 0)) (filled-⊞ q u v)
 
-pub good-⊞ : (e q s : ℕ) (r c x : List ℕ) → length r ≡ 255 → Good e q s r c → Codeword e x → take q x ≡ replicate q 0 → Good e q s (r ⊞ x) (c ⊞ x)
-good-⊞ e q s r c x full G X clear =
+pub good_⊞ : (e q s : ℕ) (r c x : List ℕ) → length r ≡ 255 → Good e q s r c → Codeword e x → take q x ≡ replicate q 0 → Good e q s (r ⊞ x) (c ⊞ x)
+good_⊞ e q s r c x full G X clear =
     record {
       code = codeword-⊞ e c x G.code X;
       fill = fill-⊞ q c x G.fill clear;

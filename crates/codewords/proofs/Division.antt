@@ -7,9 +7,9 @@ use native.Mathlib.Nat.{not-suc-le-zero, zero-add, suc-add, add-zero, add-suc}
 use native.Mathlib.Omega.{arith}
 use lib.ListN.{length}
 use Rattle.field.specs.Field.{◌⊕◌, ◌·◌}
-use Rattle.field.proofs.Sum.{⊕-zero, zero-⊕, ⊕-octet}
+use Rattle.field.proofs.Sum.{⊕-zero, zero-⊕, ⊕_octet}
 use Rattle.field.proofs.Product.{·-lt, zero-·, ·-zero, ring}
-use Rattle.field.proofs.Powers.{no_zero, ⊕-nz}
+use Rattle.field.proofs.Powers.{no_zero, ⊕_nz}
 use Rattle.codewords.specs.Words.{Octets}
 use Rattle.codewords.specs.Polynomials.{eval, ◌⊞◌, scaled, shift_by, quot, dot}
 use Rattle.codewords.proofs.Roots.{eval-lt}
@@ -20,7 +20,7 @@ pub ⊞-octets : (p q : List ℕ) → Octets p → Octets q → Octets (p ⊞ q)
 unfolding ◌⊞◌
 ⊞-octets [] q o r = r
 ⊞-octets (a ∷ p) [] o r = o
-⊞-octets (a ∷ p) (b ∷ q) o r = (⊕-octet a b o.0 r.0, ⊞-octets p q o.1 r.1)
+⊞-octets (a ∷ p) (b ∷ q) o r = (⊕_octet a b o.0 r.0, ⊞-octets p q o.1 r.1)
 
 pub scaled-octets : (c : ℕ) (p : List ℕ) → Octets (scaled c p)
 unfolding scaled
@@ -34,11 +34,11 @@ unfolding shift_by
 length_shift zero p = sym (zero-add (length p))
 length_shift (suc k) p = ap suc (length_shift k p) ∙ sym (suc-add k (length p))
 
-pub dot-shiftBy : (S : ℕ → ℕ) (i k : ℕ) (p : List ℕ) → dot S i (shift_by k p) ≡ dot S (i + k) p
+pub dot-shift_by : (S : ℕ → ℕ) (i k : ℕ) (p : List ℕ) → dot S i (shift_by k p) ≡ dot S (i + k) p
 unfolding shift_by dot
-dot-shiftBy S i zero p = ap (λ (m : ℕ). dot S m p) (sym (add-zero i))
-dot-shiftBy S i (suc k) p =
-    ap (λ (x : ℕ). 0 · S i ⊕ x) (dot-shiftBy S (suc i) k p) ∙ (simp (zero-·, zero-⊕)) ∙ ap (λ (m : ℕ). dot S m p) (suc-add i k ∙ sym (add-suc i k))
+dot-shift_by S i zero p = ap (λ (m : ℕ). dot S m p) (sym (add-zero i))
+dot-shift_by S i (suc k) p =
+    ap (λ (x : ℕ). 0 · S i ⊕ x) (dot-shift_by S (suc i) k p) ∙ (simp (zero-·, zero-⊕)) ∙ ap (λ (m : ℕ). dot S m p) (suc-add i k ∙ sym (add-suc i k))
 
 -- ---- the top coefficient
 
@@ -124,26 +124,26 @@ Zeros p (x ∷ xs) = (eval p x ≡ 0) × Zeros p xs
 zeros-quot : (p : List ℕ) (x : ℕ) (xs : List ℕ) → Octets p → x < 256 → eval p x ≡ 0 → Fresh x xs → Distinct xs → Zeros p xs → Zeros (quot p x) xs
 zeros-quot p x [] o h e f d z = tt
 zeros-quot p x (y ∷ ys) o h e f d z = (
-  no_zero (y ⊕ x) (eval (quot p x) y) (⊕-octet y x d.0 h) (eval-lt (quot p x) y (quot-octets p x o)) (⊕-nz y x (λ q. f.0 (sym q)))
+  no_zero (y ⊕ x) (eval (quot p x) y) (⊕_octet y x d.0 h) (eval-lt (quot p x) y (quot-octets p x o)) (⊕_nz y x (λ q. f.0 (sym q)))
       (sym (eval-quot p x y) ∙ ap₂ (λ (u v : ℕ). u ⊕ v) z.0 e ∙ ⊕-zero 0),
   zeros-quot p x ys o h e f.1 d.2 z.1,
 )
 
-eval-const : (c x : ℕ) → eval (c ∷ []) x ≡ c
+eval_const : (c x : ℕ) → eval (c ∷ []) x ≡ c
 unfolding eval
-eval-const c x = simp (·-zero, ⊕-zero)
+eval_const c x = simp (·-zero, ⊕-zero)
 
 -- a polynomial has fewer roots than coefficients
-pub root-count : (xs p : List ℕ) → Octets p → top p ≢ 0 → Distinct xs → Zeros p xs → length xs < length p
+pub root_count : (xs p : List ℕ) → Octets p → top p ≢ 0 → Distinct xs → Zeros p xs → length xs < length p
 unfolding top
-root-count [] [] o t d z = absurd (t refl)
-root-count [] (c ∷ p) o t d z = omega arith
-root-count (x ∷ xs) [] o t d z = absurd (t refl)
-root-count (x ∷ xs) (c ∷ []) o t d z = absurd (t (sym (eval-const c x) ∙ z.0))
-root-count (x ∷ xs) (c ∷ e ∷ p) o t d z =
+root_count [] [] o t d z = absurd (t refl)
+root_count [] (c ∷ p) o t d z = omega arith
+root_count (x ∷ xs) [] o t d z = absurd (t refl)
+root_count (x ∷ xs) (c ∷ []) o t d z = absurd (t (sym (eval_const c x) ∙ z.0))
+root_count (x ∷ xs) (c ∷ e ∷ p) o t d z =
     omega (
       arith,
       length-quot c (e ∷ p) x,
-      root-count xs (quot (c ∷ e ∷ p) x) (quot-octets (c ∷ e ∷ p) x o) (λ q. t (sym (top-quot c e p x) ∙ q)) d.2
+      root_count xs (quot (c ∷ e ∷ p) x) (quot-octets (c ∷ e ∷ p) x o) (λ q. t (sym (top-quot c e p x) ∙ q)) d.2
           (zeros-quot (c ∷ e ∷ p) x xs o d.0 z.0 d.1 d.2 z.1),
     )

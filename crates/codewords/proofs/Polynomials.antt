@@ -7,7 +7,7 @@ use native.Mathlib.Omega.{arith}
 use lib.Dec.{T}
 use lib.ListN.{length}
 use Rattle.field.specs.Field.{◌⊕◌, ◌·◌, pow}
-use Rattle.field.proofs.Sum.{⊕-zero, zero-⊕, ⊕-octet}
+use Rattle.field.proofs.Sum.{⊕-zero, zero-⊕, ⊕_octet}
 use Rattle.field.proofs.Product.{·-lt, zero-·, ·-zero, ring}
 use Rattle.field.proofs.Powers.{pow-suc}
 use Rattle.codewords.specs.Polynomials.{eval, ◌⊞◌, scaled, dot}
@@ -62,9 +62,9 @@ module _ (S : ℕ → ℕ) where
       alg : (c a s u : ℕ) → (c · a) · s ⊕ c · u ≡ c · (a · s ⊕ u)
       alg c a s u = simp ring
 
-  pub dot-shift : (i : ℕ) (p : List ℕ) → dot S i (0 ∷ p) ≡ dot S (suc i) p
+  pub dot_shift : (i : ℕ) (p : List ℕ) → dot S i (0 ∷ p) ≡ dot S (suc i) p
   unfolding dot
-  dot-shift i p = simp (zero-·, zero-⊕)
+  dot_shift i p = simp (zero-·, zero-⊕)
 
   pub dot-zero : (i : ℕ) (p : List ℕ) → ((j : ℕ) → j < length p → S (i + j) ≡ 0) → dot S i p ≡ 0
   unfolding dot
@@ -74,17 +74,17 @@ module _ (S : ℕ → ℕ) where
       (dot-zero (suc i) p (λ j l. ap S (suc-add i j ∙ sym (add-suc i j)) ∙ h (suc j) (omega arith)))
       ∙ simp (·-zero, ⊕-zero)
 
-pub dot-ext : (S T : ℕ → ℕ) (i : ℕ) (p : List ℕ) → ((j : ℕ) → j < length p → S (i + j) ≡ T (i + j)) → dot S i p ≡ dot T i p
+pub dot_ext : (S T : ℕ → ℕ) (i : ℕ) (p : List ℕ) → ((j : ℕ) → j < length p → S (i + j) ≡ T (i + j)) → dot S i p ≡ dot T i p
 unfolding dot
-dot-ext S T i [] h = refl
-dot-ext S T i (c ∷ p) h =
+dot_ext S T i [] h = refl
+dot_ext S T i (c ∷ p) h =
     ap₂ (λ (x y : ℕ). c · x ⊕ y) (ap S (sym (add-zero i)) ∙ h 0 (omega arith) ∙ ap T (add-zero i))
-    (dot-ext S T (suc i) p (λ j l. ap S (suc-add i j ∙ sym (add-suc i j)) ∙ h (suc j) (omega arith) ∙ ap T (add-suc i j ∙ sym (suc-add i j))))
+    (dot_ext S T (suc i) p (λ j l. ap S (suc-add i j ∙ sym (add-suc i j)) ∙ h (suc j) (omega arith) ∙ ap T (add-suc i j ∙ sym (suc-add i j))))
 
 pub dot-lt : (S : ℕ → ℕ) (i : ℕ) (p : List ℕ) → dot S i p < 256
 unfolding dot
 dot-lt S i [] = omega arith
-dot-lt S i (c ∷ p) = ⊕-octet (c · S i) (dot S (suc i) p) (·-lt c (S i)) (dot-lt S (suc i) p)
+dot-lt S i (c ∷ p) = ⊕_octet (c · S i) (dot S (suc i) p) (·-lt c (S i)) (dot-lt S (suc i) p)
 
 -- ---- error patterns
 
@@ -93,37 +93,37 @@ abbrev pub Pattern : Type 0
 Pattern = List (ℕ × ℕ)
 
 -- the sum of Y X^i over its pairs
-unfoldable pub syndromeOf : Pattern → ℕ → ℕ
-syndromeOf [] i = 0
-syndromeOf (e ∷ es) i = e.0 · pow e.1 i ⊕ syndromeOf es i
+unfoldable pub syndrome_of : Pattern → ℕ → ℕ
+syndrome_of [] i = 0
+syndrome_of (e ∷ es) i = e.0 · pow e.1 i ⊕ syndrome_of es i
 
-pub syndrome-lt : (es : Pattern) (i : ℕ) → syndromeOf es i < 256
-unfolding syndromeOf
-syndrome-lt [] i = omega arith
-syndrome-lt (e ∷ es) i = ⊕-octet (e.0 · pow e.1 i) (syndromeOf es i) (·-lt e.0 (pow e.1 i)) (syndrome-lt es i)
+pub syndrome_lt : (es : Pattern) (i : ℕ) → syndrome_of es i < 256
+unfolding syndrome_of
+syndrome_lt [] i = omega arith
+syndrome_lt (e ∷ es) i = ⊕_octet (e.0 · pow e.1 i) (syndrome_of es i) (·-lt e.0 (pow e.1 i)) (syndrome_lt es i)
 
 -- each value times p of its locator
 unfoldable pub times : List ℕ → Pattern → Pattern
 times p [] = []
 times p (e ∷ es) = (e.0 · eval p e.1, e.1) ∷ times p es
 
-times-nil : (es : Pattern) (i : ℕ) → syndromeOf (times [] es) i ≡ 0
-unfolding syndromeOf times eval
-times-nil [] i = refl
-times-nil (e ∷ es) i = ap (λ (x : ℕ). (e.0 · 0) · pow e.1 i ⊕ x) (times-nil es i) ∙ simp ring
+times_nil : (es : Pattern) (i : ℕ) → syndrome_of (times [] es) i ≡ 0
+unfolding syndrome_of times eval
+times_nil [] i = refl
+times_nil (e ∷ es) i = ap (λ (x : ℕ). (e.0 · 0) · pow e.1 i ⊕ x) (times_nil es i) ∙ simp ring
 
-times-cons : (c : ℕ) (p : List ℕ) (es : Pattern) (i : ℕ) → syndromeOf (times (c ∷ p) es) i ≡ c · syndromeOf es i ⊕ syndromeOf (times p es) (suc i)
-unfolding syndromeOf times eval
-times-cons c p [] i = simp ring
-times-cons c p (e ∷ es) i =
-    ap (λ (x : ℕ). (e.0 · (c ⊕ e.1 · eval p e.1)) · pow e.1 i ⊕ x) (times-cons c p es i)
-    ∙ alg c e.0 e.1 (eval p e.1) (pow e.1 i) (syndromeOf es i) (syndromeOf (times p es) (suc i))
-    ∙ ap (λ (x : ℕ). c · (e.0 · pow e.1 i ⊕ syndromeOf es i) ⊕ ((e.0 · eval p e.1) · x ⊕ syndromeOf (times p es) (suc i))) (sym (pow-suc e.1 i))
+times_cons : (c : ℕ) (p : List ℕ) (es : Pattern) (i : ℕ) → syndrome_of (times (c ∷ p) es) i ≡ c · syndrome_of es i ⊕ syndrome_of (times p es) (suc i)
+unfolding syndrome_of times eval
+times_cons c p [] i = simp ring
+times_cons c p (e ∷ es) i =
+    ap (λ (x : ℕ). (e.0 · (c ⊕ e.1 · eval p e.1)) · pow e.1 i ⊕ x) (times_cons c p es i)
+    ∙ alg c e.0 e.1 (eval p e.1) (pow e.1 i) (syndrome_of es i) (syndrome_of (times p es) (suc i))
+    ∙ ap (λ (x : ℕ). c · (e.0 · pow e.1 i ⊕ syndrome_of es i) ⊕ ((e.0 · eval p e.1) · x ⊕ syndrome_of (times p es) (suc i))) (sym (pow-suc e.1 i))
   where
     alg : (c y x v t s r : ℕ) → (y · (c ⊕ x · v)) · t ⊕ (c · s ⊕ r) ≡ c · (y · t ⊕ s) ⊕ ((y · v) · (x · t) ⊕ r)
     alg c y x v t s r = simp ring
 
-pub dot-syndrome : (es : Pattern) (i : ℕ) (p : List ℕ) → dot (syndromeOf es) i p ≡ syndromeOf (times p es) i
+pub dot_syndrome : (es : Pattern) (i : ℕ) (p : List ℕ) → dot (syndrome_of es) i p ≡ syndrome_of (times p es) i
 unfolding dot
-dot-syndrome es i [] = sym (times-nil es i)
-dot-syndrome es i (c ∷ p) = ap (λ (x : ℕ). c · syndromeOf es i ⊕ x) (dot-syndrome es (suc i) p) ∙ sym (times-cons c p es i)
+dot_syndrome es i [] = sym (times_nil es i)
+dot_syndrome es i (c ∷ p) = ap (λ (x : ℕ). c · syndrome_of es i ⊕ x) (dot_syndrome es (suc i) p) ∙ sym (times_cons c p es i)

@@ -3,7 +3,7 @@
 use Rattle.std.specs.Prelude.{◌≡◌, List, [], ◌∷◌, ℕ, zero, suc, ◌+◌, ◌≤◌, ◌<◌, length}
 use Rattle.field.specs.Field.{pow, alpha}
 use Rattle.codewords.specs.Words.{Octets, value_at}
-use Rattle.codewords.specs.Polynomials.{◌⊞◌, byRoot}
+use Rattle.codewords.specs.Polynomials.{◌⊞◌, by_root}
 
 -- The element whose powers are the points where codewords vanish, and the locators of places.
 unfoldable pub beta : ℕ
@@ -40,23 +40,23 @@ pub record Near (m E s : ℕ) (r c : List ℕ) : Type 0 where
   pub close : weight (r ⊞ c) ≤ s
 
 -- A word with zeros at the marked places.
-unfoldable pub unmarkedPart : List ℕ → List ℕ → List ℕ
-unmarkedPart [] w = w
-unmarkedPart (x ∷ d) [] = []
-unmarkedPart (zero ∷ d) (c ∷ w) = c ∷ unmarkedPart d w
-unmarkedPart (suc x ∷ d) (c ∷ w) = 0 ∷ unmarkedPart d w
+unfoldable pub unmarked_part : List ℕ → List ℕ → List ℕ
+unmarked_part [] w = w
+unmarked_part (x ∷ d) [] = []
+unmarked_part (zero ∷ d) (c ∷ w) = c ∷ unmarked_part d w
+unmarked_part (suc x ∷ d) (c ∷ w) = 0 ∷ unmarked_part d w
 
 -- A codeword such that twice the unmarked places that differ, and the marked places, are at most 2s.
 pub record GoodWord (m E s : ℕ) (d r c : List ℕ) : Type 0 where
   pub size : length r ≡ length c
   pub code : Code m (E + E) c
-  pub close : weight (unmarkedPart d (r ⊞ c)) + weight (unmarkedPart d (r ⊞ c)) + weight d ≤ s + s
+  pub close : weight (unmarked_part d (r ⊞ c)) + weight (unmarked_part d (r ⊞ c)) + weight d ≤ s + s
 
 -- A polynomial times x + z for the locator z of each marked place; and the product of these alone.
-unfoldable pub timesMarks : List ℕ → List ℕ → List ℕ
-timesMarks [] p = p
-timesMarks (zero ∷ d) p = timesMarks d p
-timesMarks (suc x ∷ d) p = byRoot (X (length d)) (timesMarks d p)
+unfoldable pub times_marks : List ℕ → List ℕ → List ℕ
+times_marks [] p = p
+times_marks (zero ∷ d) p = times_marks d p
+times_marks (suc x ∷ d) p = by_root (X (length d)) (times_marks d p)
 
 unfoldable pub erasure : List ℕ → List ℕ
-erasure d = timesMarks d (1 ∷ [])
+erasure d = times_marks d (1 ∷ [])

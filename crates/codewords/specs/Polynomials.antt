@@ -24,8 +24,8 @@ unfoldable pub shift_by : ℕ → List ℕ → List ℕ
 shift_by zero p = p
 shift_by (suc k) p = 0 ∷ shift_by k p
 
-unfoldable pub byRoot : ℕ → List ℕ → List ℕ
-byRoot z p = (0 ∷ p) ⊞ scaled z p
+unfoldable pub by_root : ℕ → List ℕ → List ℕ
+by_root z p = (0 ∷ p) ⊞ scaled z p
 
 -- b times the one plus d times the other.
 unfoldable pub blend : ℕ → ℕ → List ℕ → List ℕ → List ℕ

@@ -1,7 +1,7 @@
 -- Words, codewords and how far they lie apart (document 01, "Codewords").
 use Rattle.std.specs.Prelude.{◌≡◌, Bool, true, false, List, [], ◌∷◌, ◌++◌, map, ℕ, ◌+◌, ◌-◌, ◌*◌, ◌≤◌, ◌<◌, eqb, length, take, replicate}
 use Rattle.field.specs.Field.{◌⊕◌, ◌·◌, pow, alpha}
-use Rattle.field.specs.Line.{toConventional}
+use Rattle.field.specs.Line.{to_conventional}
 
 -- Every symbol is an octet.
 abbrev pub Octets : List ℕ → Type 0
@@ -18,21 +18,21 @@ value_at (c ∷ word) z = c · pow z (length word) ⊕ value_at word z
 pub record Codeword (e : ℕ) (word : List ℕ) : Type 0 where
   pub full : length word ≡ 255
   pub octets : Octets word
-  pub vanishes : (j : ℕ) → 128 - e ≤ j → j ≤ 127 + e → value_at (map toConventional word) (pow alpha (11 * j)) ≡ 0
+  pub vanishes : (j : ℕ) → 128 - e ≤ j → j ≤ 127 + e → value_at (map to_conventional word) (pow alpha (11 * j)) ≡ 0
 
 -- How many symbols of two words differ; one that is missing differs.
-abbrev pub oneUnless : Bool → ℕ
-oneUnless true = 0
-oneUnless false = 1
+abbrev pub one_unless : Bool → ℕ
+one_unless true = 0
+one_unless false = 1
 
 unfoldable pub differing : List ℕ → List ℕ → ℕ
 differing [] v = length v
 differing (a ∷ u) [] = length (a ∷ u)
-differing (a ∷ u) (b ∷ v) = oneUnless (eqb a b) + differing u v
+differing (a ∷ u) (b ∷ v) = one_unless (eqb a b) + differing u v
 
 -- The word of which only the last symbols are sent: q zeros of fill in front of them.
-abbrev pub withFill : ℕ → List ℕ → List ℕ
-withFill q sent = replicate q 0 ++ sent
+abbrev pub with_fill : ℕ → List ℕ → List ℕ
+with_fill q sent = replicate q 0 ++ sent
 
 -- What decoding asks of a codeword, for a received word with its fill in front: its fill is all zero, and it differs in at most s symbols.
 pub record Good (e q s : ℕ) (received codeword : List ℕ) : Type 0 where

@@ -6,47 +6,47 @@ use native.Mathlib.Omega.{arith}
 use lib.ListN.{length, take, length-append}
 use lib.Seq.{length-take-le, take-length}
 use Rattle.refusals.specs.Order.{FirstOf}
-use Rattle.refusals.specs.Sizes.{symbolCount}
-use Rattle.refusals.specs.Calls.{convolveOrder}
+use Rattle.refusals.specs.Sizes.{symbol_count}
+use Rattle.refusals.specs.Calls.{convolve_order}
 use Rattle.convolution.specs.declared.State.{State}
 use Rattle.convolution.specs.declared.Flow.{Flow}
 use Rattle.convolution.specs.declared.Convolved.TheVariants.{Done}
-use Rattle.convolution.specs.Coder.{low_bits, bits_of, symbols_from, registerAfter, placeAfter, firstOctet}
-use Rattle.convolution.specs.Outcome.{held_of, symbolsOf, toSend, stateAfter}
+use Rattle.convolution.specs.Coder.{low_bits, bits_of, symbols_from, register_after, place_after, first_octet}
+use Rattle.convolution.specs.Outcome.{held_of, symbols_of, to_send, state_after}
 use Rattle.convolution.specs.Working.{stream, Sound, Opened, Handed, Run, Accepted}
-use Rattle.convolution.proofs.Bits.{low-length}
-use Rattle.convolution.proofs.Packing.{AreOctets, Cut, cut-length, cut-filled, cut_left}
-use Rattle.convolution.proofs.Count.{symbol-count}
-use Rattle.convolution.proofs.Tables.{symbols-most}
+use Rattle.convolution.proofs.Bits.{low_length}
+use Rattle.convolution.proofs.Packing.{AreOctets, Cut, cut_length, cut_filled, cut_left}
+use Rattle.convolution.proofs.Count.{symbol_count_lem}
+use Rattle.convolution.proofs.Tables.{symbols_most}
 use Rattle.convolution.proofs.Outcomes.{Legal, legal}
 
-pub same-state : (a b : State) → a.register ≡ b.register → a.place ≡ b.place → a.holds ≡ b.holds → a.held ≡ b.held → a ≡ b
-same-state a b p q r s =
+pub same_state : (a b : State) → a.register ≡ b.register → a.place ≡ b.place → a.holds ≡ b.holds → a.held ≡ b.held → a ≡ b
+same_state a b p q r s =
     ap (λ (x : ℕ). record { register = x; place = a.place; holds = a.holds; held = a.held }) p
     ∙ ap₂ (λ (x y : ℕ). record { register = b.register; place = x; holds = y; held = a.held }) q r
     ∙ ap (λ (x : ℕ). record { register = b.register; place = b.place; holds = b.holds; held = x }) s
 
-pub held-length : (s : State) → s.holds < 8 → length (held_of s) ≡ s.holds
-held-length s h = length-take-le s.holds (low_bits 8 s.held) (omega (arith, low-length 8 s.held))
+pub held_length : (s : State) → s.holds < 8 → length (held_of s) ≡ s.holds
+held_length s h = length-take-le s.holds (low_bits 8 s.held) (omega (arith, low_length 8 s.held))
 
-module _ (rate : ℕ) (s : State) (octets before : List ℕ) (none-due : FirstOf (convolveOrder rate s.register s.place s.holds (length octets) (length before)) 0) where
+module _ (rate : ℕ) (s : State) (octets before : List ℕ) (none_due : FirstOf (convolve_order rate s.register s.place s.holds (length octets) (length before)) 0) where
   pub known : Legal rate s (length octets) (length before)
-  known = legal rate s (length octets) (length before) none-due
+  known = legal rate s (length octets) (length before) none_due
 
-  pub total : length (toSend rate s octets) ≡ s.holds + symbolCount rate s.place (length octets)
+  pub total : length (to_send rate s octets) ≡ s.holds + symbol_count rate s.place (length octets)
   total =
-      length-append (held_of s) (symbolsOf rate s octets)
-      ∙ ap₂ ◌+◌ (held-length s known.coder.holds) (symbol-count rate s.register s.place octets known.coder.rate known.coder.place)
+      length-append (held_of s) (symbols_of rate s octets)
+      ∙ ap₂ ◌+◌ (held_length s known.coder.holds) (symbol_count_lem rate s.register s.place octets known.coder.rate known.coder.place)
 
-  pub room_for : length before ≡ length (toSend rate s octets) / 8
+  pub room_for : length before ≡ length (to_send rate s octets) / 8
   room_for = known.room ∙ ap (λ (n : ℕ). n / 8) (sym total)
 
-  pub not-long : length before ≤ 4096
-  not-long = omega (arith, known.room, symbols-most rate s.place (length octets) known.coder.rate, known.few, known.coder.holds)
+  pub not_long : length before ≤ 4096
+  not_long = omega (arith, known.room, symbols_most rate s.place (length octets) known.coder.rate, known.few, known.coder.holds)
 
   module _ (start : Flow) (opened : Opened s start) where
-    pub start-sound : Sound rate start
-    start-sound =
+    pub start_sound : Sound rate start
+    start_sound =
         record {
           register = omega (arith, opened.register, known.coder.register);
           place = omega (arith, opened.place, known.coder.place);
@@ -54,28 +54,28 @@ module _ (rate : ℕ) (s : State) (octets before : List ℕ) (none-due : FirstOf
           holds = omega (arith, opened.holds, known.coder.holds);
         }
 
-    pub to-send : stream rate start (bits_of octets) ≡ toSend rate s octets
-    to-send = ap₂ ◌++◌ opened.symbols (ap₂ (λ (r p : ℕ). symbols_from rate r p (bits_of octets)) opened.register opened.place)
+    pub to_send_lem : stream rate start (bits_of octets) ≡ to_send rate s octets
+    to_send_lem = ap₂ ◌++◌ opened.symbols (ap₂ (λ (r p : ℕ). symbols_from rate r p (bits_of octets)) opened.register opened.place)
 
-    pub room-for-stream : length (stream rate start (bits_of octets)) / 8 ≤ length before
-    room-for-stream = omega (arith, room_for, ap length to-send)
+    pub room_for_stream : length (stream rate start (bits_of octets)) / 8 ≤ length before
+    room_for_stream = omega (arith, room_for, ap length to_send_lem)
 
     module _ (end : Flow) (after : List ℕ) (run : Run rate start (bits_of octets) end after) (long : length after ≡ length before) where
-      same-symbols : toSend rate s octets ≡ bits_of after ++ low_bits end.holds end.held
+      same-symbols : to_send rate s octets ≡ bits_of after ++ low_bits end.holds end.held
       same-symbols =
-          let n : length (stream rate start (bits_of octets)) / 8 ≡ length after = omega (arith, long, room_for, ap length to-send) in
+          let n : length (stream rate start (bits_of octets)) / 8 ≡ length after = omega (arith, long, room_for, ap length to_send_lem) in
           let all : take (length (stream rate start (bits_of octets)) / 8) after ≡ after = ap (λ (m : ℕ). take m after) n ∙ take-length after in
-          sym to-send ∙ sym run.same ∙ ap (λ (l : List ℕ). bits_of l ++ low_bits end.holds end.held) all
+          sym to_send_lem ∙ sym run.same ∙ ap (λ (l : List ℕ). bits_of l ++ low_bits end.holds end.held) all
 
-      cut : AreOctets after → Cut (toSend rate s octets) after (low_bits end.holds end.held)
-      cut small = record { same = same-symbols; small = small; few = omega (arith, low-length end.holds end.held, run.sound.holds) }
+      cut : AreOctets after → Cut (to_send rate s octets) after (low_bits end.holds end.held)
+      cut small = record { same = same-symbols; small = small; few = omega (arith, low_length end.holds end.held, run.sound.holds) }
 
-      numbers : AreOctets after → s.holds + length (symbolsOf rate s octets) ≡ 8 * length before + end.holds
+      numbers : AreOctets after → s.holds + length (symbols_of rate s octets) ≡ 8 * length before + end.holds
       numbers small =
-          ap (λ (n : ℕ). n + length (symbolsOf rate s octets)) (sym (held-length s known.coder.holds))
-          ∙ sym (length-append (held_of s) (symbolsOf rate s octets))
-          ∙ cut-length _ _ _ (cut small)
-          ∙ ap₂ (λ (n m : ℕ). 8 * n + m) long (low-length end.holds end.held)
+          ap (λ (n : ℕ). n + length (symbols_of rate s octets)) (sym (held_length s known.coder.holds))
+          ∙ sym (length-append (held_of s) (symbols_of rate s octets))
+          ∙ cut_length _ _ _ (cut small)
+          ∙ ap₂ (λ (n m : ℕ). 8 * n + m) long (low_length end.holds end.held)
 
       pub enough : AreOctets after → start.holds ≤ 8 * length before + end.holds
       enough small = omega (arith, opened.holds, numbers small)
@@ -86,10 +86,10 @@ module _ (rate : ℕ) (s : State) (octets before : List ℕ) (none-due : FirstOf
           record {
             count = ap Done (omega (arith, e, opened.holds, numbers small));
             state =
-                same-state next (stateAfter rate s octets)
-                (handed.register ∙ run.register ∙ ap (λ (r : ℕ). registerAfter r (bits_of octets)) opened.register)
-                (handed.place ∙ run.place ∙ ap (λ (p : ℕ). placeAfter rate p (bits_of octets)) opened.place)
-                (handed.holds ∙ sym (low-length end.holds end.held) ∙ ap length (sym left))
-                (handed.held ∙ ap firstOctet (sym left));
-            symbols = sym (cut-filled _ _ _ (cut small));
+                same_state next (state_after rate s octets)
+                (handed.register ∙ run.register ∙ ap (λ (r : ℕ). register_after r (bits_of octets)) opened.register)
+                (handed.place ∙ run.place ∙ ap (λ (p : ℕ). place_after rate p (bits_of octets)) opened.place)
+                (handed.holds ∙ sym (low_length end.holds end.held) ∙ ap length (sym left))
+                (handed.held ∙ ap first_octet (sym left));
+            symbols = sym (cut_filled _ _ _ (cut small));
           }

@@ -6,11 +6,11 @@ use native.Mathlib.Nat.{div-div-eq-div-mul, mul_comm, mod-lt, pow-suc}
 use native.Mathlib.Omega.{arith}
 use lib.Bits.{bit_xor, xor_shr, xor_mod}
 use lib.Arith.{mod-mul, digits_div, digits_mod}
-use Rattle.field.proofs.Below.{equal-below}
-use Rattle.convolution.specs.Coder.{low_bits, g1, g2, ones, connected, inverted, registerAfter, placeAfter, nextRegister, nextPlace, symbolsAt, symbols_from}
-use Rattle.convolution.specs.Working.{sumsOf, allInverted, pickedFrom}
-use Rattle.convolution.proofs.Bits.{low_first, low-mod, halved}
-use Rattle.convolution.proofs.Stream.{at-punctured}
+use Rattle.field.proofs.Below.{equal_below}
+use Rattle.convolution.specs.Coder.{low_bits, g1, g2, ones, connected, inverted, register_after, place_after, next_register, next_place, symbols_at, symbols_from}
+use Rattle.convolution.specs.Working.{sums_of, all_inverted, picked_from}
+use Rattle.convolution.proofs.Bits.{low_first, low_mod, halved}
+use Rattle.convolution.proofs.Stream.{at_punctured}
 
 -- ---- a window added to itself, moved down four times
 
@@ -22,8 +22,8 @@ swapped w d m = div-div-eq-div-mul w d (2 ^ m) ∙ ap (λ (n : ℕ). w / n) (mul
 
 module _ (i j k l : ℕ) where
   -- Moved down, it is the sum of the window moved down.
-  added-down : (w m : ℕ) → added i j k l w / 2 ^ m ≡ added i j k l (w / 2 ^ m)
-  added-down w m =
+  added_down : (w m : ℕ) → added i j k l w / 2 ^ m ≡ added i j k l (w / 2 ^ m)
+  added_down w m =
       let one = xor_shr w (w / i) m ∙ ap (bit_xor (w / 2 ^ m)) (swapped w i m) in
       let two = xor_shr (bit_xor w (w / i)) (w / j) m ∙ ap₂ bit_xor one (swapped w j m) in
       let three = xor_shr (bit_xor (bit_xor w (w / i)) (w / j)) (w / k) m ∙ ap₂ bit_xor two (swapped w k m) in
@@ -60,7 +60,7 @@ by-g1 w =
     let e : w / 64 % 2 ≡ v / 64 % 2 = low_bit 64 1 w (omega arith) (omega arith) (omega arith) in
     added-lowest 2 4 8 64 w
     ∙ ap₂ bit_xor (ap₂ bit_xor (ap₂ bit_xor (ap₂ bit_xor a b) c) d) e
-    ∙ equal-below (lowest 2 4 8 64) (λ x. ones g1 x % 2) 128 tt v (mod-lt w (omega arith))
+    ∙ equal_below (lowest 2 4 8 64) (λ x. ones g1 x % 2) 128 tt v (mod-lt w (omega arith))
 
 pub by-g2 : Adds (added 4 8 32 64) g2
 by-g2 w =
@@ -72,75 +72,75 @@ by-g2 w =
     let e : w / 64 % 2 ≡ v / 64 % 2 = low_bit 64 1 w (omega arith) (omega arith) (omega arith) in
     added-lowest 4 8 32 64 w
     ∙ ap₂ bit_xor (ap₂ bit_xor (ap₂ bit_xor (ap₂ bit_xor a b) c) d) e
-    ∙ equal-below (lowest 4 8 32 64) (λ x. ones g2 x % 2) 128 tt v (mod-lt w (omega arith))
+    ∙ equal_below (lowest 4 8 32 64) (λ x. ones g2 x % 2) 128 tt v (mod-lt w (omega arith))
 
 -- ---- the register and the bits are parts of one window
 
-next-register : (u : ℕ) → nextRegister (u / 2 % 64) (u % 2) ≡ u % 64
+next-register : (u : ℕ) → next_register (u / 2 % 64) (u % 2) ≡ u % 64
 next-register u = omega arith
 
 -- The register that the n lowest bits of a window find above them, and leave.
-pub register-at : (n w : ℕ) → registerAfter (w / 2 ^ n % 64) (low_bits n w) ≡ w % 64
+pub register-at : (n w : ℕ) → register_after (w / 2 ^ n % 64) (low_bits n w) ≡ w % 64
 register-at zero w = ap (λ (x : ℕ). x % 64) (omega arith)
 register-at (suc n) w =
-    ap₂ registerAfter (ap (λ (x : ℕ). x % 64) (above w n)) (low_first n w)
-    ∙ ap (λ (r : ℕ). registerAfter r (low_bits n w)) (next-register (w / 2 ^ n))
+    ap₂ register_after (ap (λ (x : ℕ). x % 64) (above w n)) (low_first n w)
+    ∙ ap (λ (r : ℕ). register_after r (low_bits n w)) (next-register (w / 2 ^ n))
     ∙ register-at n w
   where
     above : (w n : ℕ) → w / 2 ^ suc n ≡ w / 2 ^ n / 2
     above w n = sym (halved w n) ∙ swapped w 2 n
 
 module _ (i j k l : ℕ) (vector : List ℕ) (adds : Adds (added i j k l) vector) where
-  pub sums-at-once : (n w : ℕ) → low_bits n (added i j k l w) ≡ sumsOf vector (w / 2 ^ n % 64) (low_bits n w)
-  sums-at-once zero w = refl
-  sums-at-once (suc n) w =
+  pub sums_at_once : (n w : ℕ) → low_bits n (added i j k l w) ≡ sums_of vector (w / 2 ^ n % 64) (low_bits n w)
+  sums_at_once zero w = refl
+  sums_at_once (suc n) w =
       let u = w / 2 ^ n in
       let half : w / 2 ^ suc n ≡ u / 2 = sym (halved w n) ∙ swapped w 2 n in
       let window : u % 128 ≡ (u / 2 % 64) * 2 + u % 2 = omega arith in
       let first : added i j k l w / 2 ^ n % 2 ≡ connected vector (u / 2 % 64) (u % 2) =
-      ap (λ (x : ℕ). x % 2) (added-down i j k l w n) ∙ adds u ∙ ap (λ (x : ℕ). ones vector x % 2) window in
+      ap (λ (x : ℕ). x % 2) (added_down i j k l w n) ∙ adds u ∙ ap (λ (x : ℕ). ones vector x % 2) window in
       low_first n (added i j k l w)
-      ∙ ap₂ ◌∷◌ first (sums-at-once n w ∙ ap (λ (r : ℕ). sumsOf vector r (low_bits n w)) (sym (next-register u)))
-      ∙ sym (ap₂ (sumsOf vector) (ap (λ (x : ℕ). x % 64) half) (low_first n w))
+      ∙ ap₂ ◌∷◌ first (sums_at_once n w ∙ ap (λ (r : ℕ). sums_of vector r (low_bits n w)) (sym (next-register u)))
+      ∙ sym (ap₂ (sums_of vector) (ap (λ (x : ℕ). x % 64) half) (low_first n w))
 
-pub sums-g1 : (w : ℕ) → low_bits 8 (added 2 4 8 64 w % 256) ≡ sumsOf g1 (w / 256 % 64) (low_bits 8 w)
-sums-g1 w = low-mod 8 8 (added 2 4 8 64 w) (omega arith) ∙ sums-at-once 2 4 8 64 g1 by-g1 8 w
+pub sums-g1 : (w : ℕ) → low_bits 8 (added 2 4 8 64 w % 256) ≡ sums_of g1 (w / 256 % 64) (low_bits 8 w)
+sums-g1 w = low_mod 8 8 (added 2 4 8 64 w) (omega arith) ∙ sums_at_once 2 4 8 64 g1 by-g1 8 w
 
-pub sums-g2 : (w : ℕ) → low_bits 8 (added 4 8 32 64 w % 256) ≡ sumsOf g2 (w / 256 % 64) (low_bits 8 w)
-sums-g2 w = low-mod 8 8 (added 4 8 32 64 w) (omega arith) ∙ sums-at-once 4 8 32 64 g2 by-g2 8 w
+pub sums-g2 : (w : ℕ) → low_bits 8 (added 4 8 32 64 w % 256) ≡ sums_of g2 (w / 256 % 64) (low_bits 8 w)
+sums-g2 w = low_mod 8 8 (added 4 8 32 64 w) (omega arith) ∙ sums_at_once 4 8 32 64 g2 by-g2 8 w
 
 -- ---- C2 inverted
 
-inverted-more : (rate : ℕ) (l : List ℕ) (x : ℕ) → allInverted rate (l ++ (x ∷ [])) ≡ allInverted rate l ++ (inverted rate x ∷ [])
-inverted-more rate [] x = refl
-inverted-more rate (y ∷ l) x = ap (λ (k : List ℕ). inverted rate y ∷ k) (inverted-more rate l x)
+inverted_more : (rate : ℕ) (l : List ℕ) (x : ℕ) → all_inverted rate (l ++ (x ∷ [])) ≡ all_inverted rate l ++ (inverted rate x ∷ [])
+inverted_more rate [] x = refl
+inverted_more rate (y ∷ l) x = ap (λ (k : List ℕ). inverted rate y ∷ k) (inverted_more rate l x)
 
-complement : (n x : ℕ) → x < 2 ^ n → low_bits n (2 ^ n - 1 - x) ≡ allInverted 1 (low_bits n x)
+complement : (n x : ℕ) → x < 2 ^ n → low_bits n (2 ^ n - 1 - x) ≡ all_inverted 1 (low_bits n x)
 complement zero x h = refl
 complement (suc n) x h =
     let up : 2 ^ suc n ≡ 2 ^ n * 2 = pow-suc 2 n in
     let half : (2 ^ suc n - 1 - x) / 2 ≡ 2 ^ n - 1 - x / 2 = omega arith in
     let odd : (2 ^ suc n - 1 - x) % 2 ≡ 1 - x % 2 = omega arith in
     ap₂ (λ (l : List ℕ) (b : ℕ). l ++ (b ∷ [])) (ap (low_bits n) half ∙ complement n (x / 2) (omega arith)) odd
-    ∙ sym (inverted-more 1 (low_bits n (x / 2)) (x % 2))
+    ∙ sym (inverted_more 1 (low_bits n (x / 2)) (x % 2))
 
-pub inverted-half : (rate x : ℕ) → rate ≡ 1 → x < 256 → low_bits 8 (255 - x) ≡ allInverted rate (low_bits 8 x)
-inverted-half rate x e h = complement 8 x h ∙ ap (λ (r : ℕ). allInverted r (low_bits 8 x)) (sym e)
+pub inverted_half : (rate x : ℕ) → rate ≡ 1 → x < 256 → low_bits 8 (255 - x) ≡ all_inverted rate (low_bits 8 x)
+inverted_half rate x e h = complement 8 x h ∙ ap (λ (r : ℕ). all_inverted r (low_bits 8 x)) (sym e)
 
-pub none-inverted : (rate : ℕ) (l : List ℕ) → (rate ≡ 1 → ⊥) → l ≡ allInverted rate l
-none-inverted rate [] n = refl
-none-inverted rate (x ∷ l) n = ap₂ ◌∷◌ (sym (at-punctured rate x n)) (none-inverted rate l n)
+pub none_inverted : (rate : ℕ) (l : List ℕ) → (rate ≡ 1 → ⊥) → l ≡ all_inverted rate l
+none_inverted rate [] n = refl
+none_inverted rate (x ∷ l) n = ap₂ ◌∷◌ (sym (at_punctured rate x n)) (none_inverted rate l n)
 
 -- ---- the symbols are what is picked of the sums
 
-pub symbols-picked : (rate register place : ℕ) (bits : List ℕ) → symbols_from rate register place bits ≡ pickedFrom rate place (sumsOf g1 register bits) (allInverted rate (sumsOf g2 register bits))
-unfolding symbolsAt
-symbols-picked rate register place [] = refl
-symbols-picked rate register place (bit ∷ bits) =
-    ap (λ (l : List ℕ). symbolsAt rate register place bit ++ l) (symbols-picked rate (nextRegister register bit) (nextPlace rate place) bits)
+pub symbols_picked : (rate register place : ℕ) (bits : List ℕ) → symbols_from rate register place bits ≡ picked_from rate place (sums_of g1 register bits) (all_inverted rate (sums_of g2 register bits))
+unfolding symbols_at
+symbols_picked rate register place [] = refl
+symbols_picked rate register place (bit ∷ bits) =
+    ap (λ (l : List ℕ). symbols_at rate register place bit ++ l) (symbols_picked rate (next_register register bit) (next_place rate place) bits)
 
 -- The place goes on by the number of bits.
-pub place-by-count : (n rate place x y : ℕ) → placeAfter rate place (low_bits n x) ≡ placeAfter rate place (low_bits n y)
-place-by-count zero rate place x y = refl
-place-by-count (suc n) rate place x y =
-    ap (placeAfter rate place) (low_first n x) ∙ place-by-count n rate (nextPlace rate place) x y ∙ sym (ap (placeAfter rate place) (low_first n y))
+pub place_by_count : (n rate place x y : ℕ) → place_after rate place (low_bits n x) ≡ place_after rate place (low_bits n y)
+place_by_count zero rate place x y = refl
+place_by_count (suc n) rate place x y =
+    ap (place_after rate place) (low_first n x) ∙ place_by_count n rate (next_place rate place) x y ∙ sym (ap (place_after rate place) (low_first n y))

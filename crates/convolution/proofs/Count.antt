@@ -10,15 +10,15 @@ use native.Mathlib.Omega.{arith}
 use lib.Dec.{T}
 use lib.ListN.{length, length-append}
 use Rattle.refusals.specs.Order.{OneOf}
-use Rattle.refusals.specs.Sizes.{period, rates, symbolCount}
-use Rattle.convolution.specs.Coder.{bits_of, c1Patterns, c2Patterns, patternAt, sent, symbolsAt, symbols_from, nextRegister, nextPlace}
+use Rattle.refusals.specs.Sizes.{period, rates, symbol_count}
+use Rattle.convolution.specs.Coder.{bits_of, c1_patterns, c2_patterns, pattern_at, sent, symbols_at, symbols_from, next_register, next_place}
 use Rattle.convolution.specs.Working.{ahead}
 use Rattle.convolution.proofs.Bits.{bits-length}
-use Rattle.field.proofs.Below.{agree, equal-below}
+use Rattle.field.proofs.Below.{agree, equal_below}
 
 -- What holds of the five rates holds of every legal rate.
-pub each-rate : (P : ℕ → Type 0) → P 1 → P 2 → P 3 → P 4 → P 5 → (rate : ℕ) → OneOf rates rate → P rate
-each-rate P p1 p2 p3 p4 p5 rate legal =
+pub each_rate : (P : ℕ → Type 0) → P 1 → P 2 → P 3 → P 4 → P 5 → (rate : ℕ) → OneOf rates rate → P rate
+each_rate P p1 p2 p3 p4 p5 rate legal =
     ⊎_elim (at p1) (⊎_elim (at p2) (⊎_elim (at p3) (⊎_elim (at p4) (⊎_elim (at p5) (λ none. absurd none))))) legal
   where
     at : {r : ℕ} → P r → rate ≡ r → P rate
@@ -40,7 +40,7 @@ ahead-next p place h =
 -- The pattern sends one symbol at each place of its period, and two at the first.
 pub record Regular (rate : ℕ) : Type 0 where
   pub some : 0 < period rate
-  pub sends : (register place bit : ℕ) → place < period rate → length (symbolsAt rate register place bit) ≡ suc (extra place)
+  pub sends : (register place bit : ℕ) → place < period rate → length (symbols_at rate register place bit) ≡ suc (extra place)
 
 -- n symbols for m bits from a place on, e of them at first places: those, a period apart, reach over the bits, but not by a period.
 record Counted (p place m n : ℕ) : Type 0 where
@@ -83,60 +83,60 @@ module _ (rate : ℕ) (regular : Regular rate) where
       short zero h = omega arith
       short (suc q) h = omega arith
   counted register place (bit ∷ bits) h =
-      let rest = counted (nextRegister register bit) (nextPlace rate place) bits (mod-lt (place + 1) regular.some) in
-      let n : length (symbols_from rate register place (bit ∷ bits)) ≡ suc (extra place) + length (symbols_from rate (nextRegister register bit) (nextPlace rate place) bits) =
-      length-append (symbolsAt rate register place bit) _ ∙ ap (λ (k : ℕ). k + length (symbols_from rate (nextRegister register bit) (nextPlace rate place) bits)) (regular.sends register place bit h) in
+      let rest = counted (next_register register bit) (next_place rate place) bits (mod-lt (place + 1) regular.some) in
+      let n : length (symbols_from rate register place (bit ∷ bits)) ≡ suc (extra place) + length (symbols_from rate (next_register register bit) (next_place rate place) bits) =
+      length-append (symbols_at rate register place bit) _ ∙ ap (λ (k : ℕ). k + length (symbols_from rate (next_register register bit) (next_place rate place) bits)) (regular.sends register place bit h) in
       rw n (more (period rate) place (length bits) _ h rest)
 
-  pub regular-count : (register place : ℕ) (octets : List ℕ) → place < period rate → length (symbols_from rate register place (bits_of octets)) ≡ symbolCount rate place (length octets)
-  regular-count register place octets h =
+  pub regular_count : (register place : ℕ) (octets : List ℕ) → place < period rate → length (symbols_from rate register place (bits_of octets)) ≡ symbol_count rate place (length octets)
+  regular_count register place octets h =
       let c = counted register place (bits_of octets) h in
       c.all ∙ ap₂ ◌+◌ (bits-length octets) (sym (begun (period rate) place (8 * length octets) c.e h (omega (arith, c.enough, bits-length octets)) (omega (arith, c.tight, bits-length octets))))
 
 -- How many symbols are sent does not depend on which.
-abbrev sentAt : ℕ → ℕ → ℕ
-sentAt rate place = length (sent (patternAt c1Patterns rate place) 0 ++ sent (patternAt c2Patterns rate place) 0)
+abbrev sent_at : ℕ → ℕ → ℕ
+sent_at rate place = length (sent (pattern_at c1_patterns rate place) 0 ++ sent (pattern_at c2_patterns rate place) 0)
 
-any-symbols : (a b x y : ℕ) → length (sent a x ++ sent b y) ≡ length (sent a 0 ++ sent b 0)
-any-symbols zero zero x y = refl
-any-symbols zero (suc b) x y = refl
-any-symbols (suc a) zero x y = refl
-any-symbols (suc a) (suc b) x y = refl
+any_symbols : (a b x y : ℕ) → length (sent a x ++ sent b y) ≡ length (sent a 0 ++ sent b 0)
+any_symbols zero zero x y = refl
+any_symbols zero (suc b) x y = refl
+any_symbols (suc a) zero x y = refl
+any_symbols (suc a) (suc b) x y = refl
 
 -- As the patterns say it, whichever symbols.
 pub record Patterned (rate : ℕ) : Type 0 where
-  pub sends : (place x y : ℕ) → place < period rate → length (sent (patternAt c1Patterns rate place) x ++ sent (patternAt c2Patterns rate place) y) ≡ suc (extra place)
+  pub sends : (place x y : ℕ) → place < period rate → length (sent (pattern_at c1_patterns rate place) x ++ sent (pattern_at c2_patterns rate place) y) ≡ suc (extra place)
 
 pub patterned : (rate : ℕ) → Regular rate → Patterned rate
-unfolding symbolsAt
+unfolding symbols_at
 patterned rate r =
     record {
       sends = λ place x y h.
-          any-symbols (patternAt c1Patterns rate place) (patternAt c2Patterns rate place) x y
-          ∙ sym (any-symbols (patternAt c1Patterns rate place) (patternAt c2Patterns rate place) _ _)
+          any_symbols (pattern_at c1_patterns rate place) (pattern_at c2_patterns rate place) x y
+          ∙ sym (any_symbols (pattern_at c1_patterns rate place) (pattern_at c2_patterns rate place) _ _)
           ∙ r.sends 0 place 0 h;
     }
 
-tested : (rate : ℕ) → 0 < period rate → T (agree (sentAt rate) (λ place. suc (extra place)) (period rate)) → Regular rate
-unfolding symbolsAt
+tested : (rate : ℕ) → 0 < period rate → T (agree (sent_at rate) (λ place. suc (extra place)) (period rate)) → Regular rate
+unfolding symbols_at
 tested rate some test =
     record {
       some = some;
       sends = λ register place bit h.
-          any-symbols (patternAt c1Patterns rate place) (patternAt c2Patterns rate place) _ _
-          ∙ equal-below (sentAt rate) (λ at. suc (extra at)) (period rate) test place h;
+          any_symbols (pattern_at c1_patterns rate place) (pattern_at c2_patterns rate place) _ _
+          ∙ equal_below (sent_at rate) (λ at. suc (extra at)) (period rate) test place h;
     }
 
 -- Each rate's pattern is such a one.
 pub regular : (rate : ℕ) → OneOf rates rate → Regular rate
 regular =
-    each-rate Regular (tested 1 (omega arith) tt) (tested 2 (omega arith) tt) (tested 3 (omega arith) tt) (tested 4 (omega arith) tt) (tested 5 (omega arith) tt)
+    each_rate Regular (tested 1 (omega arith) tt) (tested 2 (omega arith) tt) (tested 3 (omega arith) tt) (tested 4 (omega arith) tt) (tested 5 (omega arith) tt)
 
-pub symbol-count : (rate register place : ℕ) (octets : List ℕ) → OneOf rates rate → place < period rate → length (symbols_from rate register place (bits_of octets)) ≡ symbolCount rate place (length octets)
-symbol-count rate register place octets legal h = regular-count rate (regular rate legal) register place octets h
+pub symbol_count_lem : (rate register place : ℕ) (octets : List ℕ) → OneOf rates rate → place < period rate → length (symbols_from rate register place (bits_of octets)) ≡ symbol_count rate place (length octets)
+symbol_count_lem rate register place octets legal h = regular_count rate (regular rate legal) register place octets h
 
 -- From place 0 on: 8n plus 8n/p rounded up.
-pub symbol-count-anew : (rate : ℕ) (octets : List ℕ) → OneOf rates rate → length (symbols_from rate 0 0 (bits_of octets)) ≡ 8 * length octets + (8 * length octets + (period rate - 1)) / period rate
-symbol-count-anew rate octets legal =
-    symbol-count rate 0 0 octets legal (regular rate legal).some
-    ∙ each-rate (λ r. symbolCount r 0 (length octets) ≡ 8 * length octets + (8 * length octets + (period r - 1)) / period r) (omega arith) (omega arith) (omega arith) (omega arith) (omega arith) rate legal
+pub symbol_count_anew : (rate : ℕ) (octets : List ℕ) → OneOf rates rate → length (symbols_from rate 0 0 (bits_of octets)) ≡ 8 * length octets + (8 * length octets + (period rate - 1)) / period rate
+symbol_count_anew rate octets legal =
+    symbol_count_lem rate 0 0 octets legal (regular rate legal).some
+    ∙ each_rate (λ r. symbol_count r 0 (length octets) ≡ 8 * length octets + (8 * length octets + (period r - 1)) / period r) (omega arith) (omega arith) (omega arith) (omega arith) (omega arith) rate legal

@@ -11,12 +11,12 @@ use lib.Dec.{T, ltb, leb→le}
 use lib.Bits.{bit_xor, xor_mod, xor_shr, xor_lt, xor_zero_r}
 use Rattle.field.proofs.Below.{both, both_left, both_right, all_below, at-below}
 use Rattle.convolution.specs.declared.Group.{Group}
-use Rattle.convolution.specs.Coder.{low_bits, sent, c1Patterns, c2Patterns, patternAt, nextPlace, placeAfter}
-use Rattle.convolution.specs.Working.{patternsFrom, pickedFrom}
-use Rattle.convolution.specs.GroupWorking.{movedUp, spreadBy, symbolsBy, Grouped}
-use Rattle.convolution.proofs.Bits.{low_first, low-mod}
-use Rattle.convolution.proofs.AtOnce.{place-by-count}
-use Rattle.convolution.proofs.Moving.{by_units, symbols-sum, symbols-low}
+use Rattle.convolution.specs.Coder.{low_bits, sent, c1_patterns, c2_patterns, pattern_at, next_place, place_after}
+use Rattle.convolution.specs.Working.{patterns_from, picked_from}
+use Rattle.convolution.specs.GroupWorking.{moved_up, spread_by, symbols_by, Grouped}
+use Rattle.convolution.proofs.Bits.{low_first, low_mod}
+use Rattle.convolution.proofs.AtOnce.{place_by_count}
+use Rattle.convolution.proofs.Moving.{by_units, symbols-sum, symbols_low}
 use Rattle.convolution.proofs.Tables.{same, same_lists}
 
 -- ---- bit by bit, modulo 2
@@ -40,86 +40,86 @@ sent-sum (suc p) zero x x' y y' l l' = refl
 sent-sum (suc p) (suc q) x x' y y' l l' = refl
 
 -- What is sent of sums is the sum of what is sent.
-picked-sum : (n rate place x x' y y' : ℕ) →
-    pickedFrom rate place (low_bits n (bit_xor x x')) (low_bits n (bit_xor y y'))
-    ≡ sums (pickedFrom rate place (low_bits n x) (low_bits n y)) (pickedFrom rate place (low_bits n x') (low_bits n y'))
-picked-sum zero rate place x x' y y' = refl
-picked-sum (suc n) rate place x x' y y' =
+picked_sum : (n rate place x x' y y' : ℕ) →
+    picked_from rate place (low_bits n (bit_xor x x')) (low_bits n (bit_xor y y'))
+    ≡ sums (picked_from rate place (low_bits n x) (low_bits n y)) (picked_from rate place (low_bits n x') (low_bits n y'))
+picked_sum zero rate place x x' y y' = refl
+picked_sum (suc n) rate place x x' y y' =
     let first : bit_xor x x' / 2 ^ n % 2 ≡ bit_xor (x / 2 ^ n % 2) (x' / 2 ^ n % 2) = ap (λ (z : ℕ). z % 2) (xor_shr x x' n) ∙ xor_mod (x / 2 ^ n) (x' / 2 ^ n) 1 in
     let second : bit_xor y y' / 2 ^ n % 2 ≡ bit_xor (y / 2 ^ n % 2) (y' / 2 ^ n % 2) = ap (λ (z : ℕ). z % 2) (xor_shr y y' n) ∙ xor_mod (y / 2 ^ n) (y' / 2 ^ n) 1 in
-    let p = patternAt c1Patterns rate place in
-    let q = patternAt c2Patterns rate place in
-    let next = nextPlace rate place in
-    ap₂ (pickedFrom rate place) (low_first n (bit_xor x x')) (low_first n (bit_xor y y'))
-    ∙ ap₂ (λ (a b : ℕ). sent p a ++ sent q b ++ pickedFrom rate next (low_bits n (bit_xor x x')) (low_bits n (bit_xor y y'))) first second
-    ∙ ap (λ (l : List ℕ). sent p (bit_xor (x / 2 ^ n % 2) (x' / 2 ^ n % 2)) ++ sent q (bit_xor (y / 2 ^ n % 2) (y' / 2 ^ n % 2)) ++ l) (picked-sum n rate next x x' y y')
-    ∙ sent-sum p q (x / 2 ^ n % 2) (x' / 2 ^ n % 2) (y / 2 ^ n % 2) (y' / 2 ^ n % 2) (pickedFrom rate next (low_bits n x) (low_bits n y)) (pickedFrom rate next (low_bits n x') (low_bits n y'))
-    ∙ sym (ap₂ sums (ap₂ (pickedFrom rate place) (low_first n x) (low_first n y)) (ap₂ (pickedFrom rate place) (low_first n x') (low_first n y')))
+    let p = pattern_at c1_patterns rate place in
+    let q = pattern_at c2_patterns rate place in
+    let next = next_place rate place in
+    ap₂ (picked_from rate place) (low_first n (bit_xor x x')) (low_first n (bit_xor y y'))
+    ∙ ap₂ (λ (a b : ℕ). sent p a ++ sent q b ++ picked_from rate next (low_bits n (bit_xor x x')) (low_bits n (bit_xor y y'))) first second
+    ∙ ap (λ (l : List ℕ). sent p (bit_xor (x / 2 ^ n % 2) (x' / 2 ^ n % 2)) ++ sent q (bit_xor (y / 2 ^ n % 2) (y' / 2 ^ n % 2)) ++ l) (picked_sum n rate next x x' y y')
+    ∙ sent-sum p q (x / 2 ^ n % 2) (x' / 2 ^ n % 2) (y / 2 ^ n % 2) (y' / 2 ^ n % 2) (picked_from rate next (low_bits n x) (low_bits n y)) (picked_from rate next (low_bits n x') (low_bits n y'))
+    ∙ sym (ap₂ sums (ap₂ (picked_from rate place) (low_first n x) (low_first n y)) (ap₂ (picked_from rate place) (low_first n x') (low_first n y')))
 
 -- ---- a group's symbols
 
 -- The lowest bits again, in the order in which a test is quick.
-abbrev bitsDown : ℕ → ℕ → List ℕ
-bitsDown zero x = []
-bitsDown (suc n) x = x / 2 ^ n % 2 ∷ bitsDown n x
+abbrev bits_down : ℕ → ℕ → List ℕ
+bits_down zero x = []
+bits_down (suc n) x = x / 2 ^ n % 2 ∷ bits_down n x
 
-down : (n x : ℕ) → low_bits n x ≡ bitsDown n x
+down : (n x : ℕ) → low_bits n x ≡ bits_down n x
 down zero x = refl
 down (suc n) x = low_first n x ∙ ap (λ (l : List ℕ). x / 2 ^ n % 2 ∷ l) (down n x)
 
 -- And what is sent, by a list of what each pattern says.
-abbrev pickedBy : List ℕ → List ℕ → List ℕ → List ℕ → List ℕ
-pickedBy [] q xs ys = []
-pickedBy (a ∷ p) [] xs ys = []
-pickedBy (a ∷ p) (b ∷ q) [] ys = []
-pickedBy (a ∷ p) (b ∷ q) (x ∷ xs) [] = []
-pickedBy (a ∷ p) (b ∷ q) (x ∷ xs) (y ∷ ys) = sent a x ++ sent b y ++ pickedBy p q xs ys
+abbrev picked_by : List ℕ → List ℕ → List ℕ → List ℕ → List ℕ
+picked_by [] q xs ys = []
+picked_by (a ∷ p) [] xs ys = []
+picked_by (a ∷ p) (b ∷ q) [] ys = []
+picked_by (a ∷ p) (b ∷ q) (x ∷ xs) [] = []
+picked_by (a ∷ p) (b ∷ q) (x ∷ xs) (y ∷ ys) = sent a x ++ sent b y ++ picked_by p q xs ys
 
-abbrev secondsFrom : ℕ → ℕ → ℕ → List ℕ
-secondsFrom rate place zero = []
-secondsFrom rate place (suc n) = patternAt c2Patterns rate place ∷ secondsFrom rate (nextPlace rate place) n
+abbrev seconds_from : ℕ → ℕ → ℕ → List ℕ
+seconds_from rate place zero = []
+seconds_from rate place (suc n) = pattern_at c2_patterns rate place ∷ seconds_from rate (next_place rate place) n
 
-by-lists : (n rate place x y : ℕ) → pickedFrom rate place (bitsDown n x) (bitsDown n y) ≡ pickedBy (patternsFrom rate place n) (secondsFrom rate place n) (bitsDown n x) (bitsDown n y)
-by-lists zero rate place x y = refl
-by-lists (suc n) rate place x y =
-    ap (λ (l : List ℕ). sent (patternAt c1Patterns rate place) (x / 2 ^ n % 2) ++ sent (patternAt c2Patterns rate place) (y / 2 ^ n % 2) ++ l) (by-lists n rate (nextPlace rate place) x y)
+by_lists : (n rate place x y : ℕ) → picked_from rate place (bits_down n x) (bits_down n y) ≡ picked_by (patterns_from rate place n) (seconds_from rate place n) (bits_down n x) (bits_down n y)
+by_lists zero rate place x y = refl
+by_lists (suc n) rate place x y =
+    ap (λ (l : List ℕ). sent (pattern_at c1_patterns rate place) (x / 2 ^ n % 2) ++ sent (pattern_at c2_patterns rate place) (y / 2 ^ n % 2) ++ l) (by_lists n rate (next_place rate place) x y)
 
 module _ (rate : ℕ) (g : Group) where
   record Right (x y : ℕ) : Type 0 where
-    symbols : low_bits (8 * g.filled) (symbolsBy g x y) ≡ pickedFrom rate 0 (low_bits (8 * g.octets) x) (low_bits (8 * g.octets) y)
-    small : symbolsBy g x y < 2 ^ (8 * g.filled)
+    symbols : low_bits (8 * g.filled) (symbols_by g x y) ≡ picked_from rate 0 (low_bits (8 * g.octets) x) (low_bits (8 * g.octets) y)
+    small : symbols_by g x y < 2 ^ (8 * g.filled)
 
-  right-sum : (x x' y y' : ℕ) → Right x y → Right x' y' → Right (bit_xor x x') (bit_xor y y')
-  right-sum x x' y y' p q =
+  right_sum : (x x' y y' : ℕ) → Right x y → Right x' y' → Right (bit_xor x x') (bit_xor y y')
+  right_sum x x' y y' p q =
       let e = symbols-sum g x x' y y' in
       record {
         symbols =
             ap (low_bits (8 * g.filled)) e
-            ∙ low_sum (8 * g.filled) (symbolsBy g x y) (symbolsBy g x' y')
+            ∙ low_sum (8 * g.filled) (symbols_by g x y) (symbols_by g x' y')
             ∙ ap₂ sums p.symbols q.symbols
-            ∙ sym (picked-sum (8 * g.octets) rate 0 x x' y y');
-        small = subst (λ (v : ℕ). v < 2 ^ (8 * g.filled)) (sym e) (xor_lt (8 * g.filled) (symbolsBy g x y) (symbolsBy g x' y') p.small q.small);
+            ∙ sym (picked_sum (8 * g.octets) rate 0 x x' y y');
+        small = subst (λ (v : ℕ). v < 2 ^ (8 * g.filled)) (sym e) (xor_lt (8 * g.filled) (symbols_by g x y) (symbols_by g x' y') p.small q.small);
       }
 
   -- A test of a number against the symbols that it is to have.
   abbrev has : List ℕ → ℕ → Bool
-  has l v = both (same (bitsDown (8 * g.filled) v) l) (ltb v (2 ^ (8 * g.filled)))
+  has l v = both (same (bits_down (8 * g.filled) v) l) (ltb v (2 ^ (8 * g.filled)))
 
   abbrev test_by : List ℕ → List ℕ → ℕ → ℕ → Bool
-  test_by p q x y = has (pickedBy p q (bitsDown (8 * g.octets) x) (bitsDown (8 * g.octets) y)) (symbolsBy g x y)
+  test_by p q x y = has (picked_by p q (bits_down (8 * g.octets) x) (bits_down (8 * g.octets) y)) (symbols_by g x y)
 
   abbrev test : ℕ → ℕ → Bool
-  test = test_by (patternsFrom rate 0 (8 * g.octets)) (secondsFrom rate 0 (8 * g.octets))
+  test = test_by (patterns_from rate 0 (8 * g.octets)) (seconds_from rate 0 (8 * g.octets))
 
   tested : (x y : ℕ) → T (test x y) → Right x y
   tested x y t =
       let n = 8 * g.octets in
-      let v = symbolsBy g x y in
-      let l = pickedBy (patternsFrom rate 0 n) (secondsFrom rate 0 n) (bitsDown n x) (bitsDown n y) in
-      let a = same (bitsDown (8 * g.filled) v) l in
+      let v = symbols_by g x y in
+      let l = picked_by (patterns_from rate 0 n) (seconds_from rate 0 n) (bits_down n x) (bits_down n y) in
+      let a = same (bits_down (8 * g.filled) v) l in
       let b = ltb v (2 ^ (8 * g.filled)) in
       record {
-        symbols = down (8 * g.filled) v ∙ same_lists (bitsDown (8 * g.filled) v) l (both_left a b t) ∙ sym (ap₂ (pickedFrom rate 0) (down n x) (down n y) ∙ by-lists n rate 0 x y);
+        symbols = down (8 * g.filled) v ∙ same_lists (bits_down (8 * g.filled) v) l (both_left a b t) ∙ sym (ap₂ (picked_from rate 0) (down n x) (down n y) ∙ by_lists n rate 0 x y);
         small = leb→le (suc v) (2 ^ (8 * g.filled)) (both_right a b t);
       }
 
@@ -128,13 +128,13 @@ module _ (rate : ℕ) (g : Group) where
   unit_by p q k = both (test_by p q (2 ^ k) 0) (test_by p q 0 (2 ^ k))
 
   abbrev unit : ℕ → Bool
-  unit = unit_by (patternsFrom rate 0 (8 * g.octets)) (secondsFrom rate 0 (8 * g.octets))
+  unit = unit_by (patterns_from rate 0 (8 * g.octets)) (seconds_from rate 0 (8 * g.octets))
 
-  abbrev unitsBy : List ℕ → List ℕ → Bool
-  unitsBy p q = both (test_by p q 0 0) (all_below (8 * g.octets) (unit_by p q))
+  abbrev units_by : List ℕ → List ℕ → Bool
+  units_by p q = both (test_by p q 0 0) (all_below (8 * g.octets) (unit_by p q))
 
   abbrev units : Bool
-  units = unitsBy (patternsFrom rate 0 (8 * g.octets)) (secondsFrom rate 0 (8 * g.octets))
+  units = units_by (patterns_from rate 0 (8 * g.octets)) (seconds_from rate 0 (8 * g.octets))
 
   module _ (t : T units) where
     none : Right 0 0
@@ -144,10 +144,10 @@ module _ (rate : ℕ) (g : Group) where
     one = at-below unit (8 * g.octets) (both_right (test 0 0) (all_below (8 * g.octets) unit) t)
 
     first : (x : ℕ) → x < 2 ^ (8 * g.octets) → Right x 0
-    first = by_units (λ x. Right x 0) none (λ x y p q. right-sum x y 0 0 p q) (8 * g.octets) (λ k h. tested (2 ^ k) 0 (both_left (test (2 ^ k) 0) (test 0 (2 ^ k)) (one k h)))
+    first = by_units (λ x. Right x 0) none (λ x y p q. right_sum x y 0 0 p q) (8 * g.octets) (λ k h. tested (2 ^ k) 0 (both_left (test (2 ^ k) 0) (test 0 (2 ^ k)) (one k h)))
 
     second : (y : ℕ) → y < 2 ^ (8 * g.octets) → Right 0 y
-    second = by_units (λ y. Right 0 y) none (λ x y p q. right-sum 0 0 x y p q) (8 * g.octets) (λ k h. tested 0 (2 ^ k) (both_right (test (2 ^ k) 0) (test 0 (2 ^ k)) (one k h)))
+    second = by_units (λ y. Right 0 y) none (λ x y p q. right_sum 0 0 x y p q) (8 * g.octets) (λ k h. tested 0 (2 ^ k) (both_right (test (2 ^ k) 0) (test 0 (2 ^ k)) (one k h)))
 
     module _ (in-first : g.first < 2 ^ (8 * g.octets)) (in-second : g.second < 2 ^ (8 * g.octets)) (in-begins : g.begins < 2 ^ (8 * g.octets)) where
       right : (x y : ℕ) → Right x y
@@ -155,21 +155,21 @@ module _ (rate : ℕ) (g : Group) where
           let n = 8 * g.octets in
           let a = x % 2 ^ n in
           let b = y % 2 ^ n in
-          let low = symbols-low g n x y in-first in-second in-begins in
-          let r = subst (λ (z : ℕ). Right z b) (xor_zero_r a) (right-sum a 0 0 b (first a (mod-lt x (pow_pos n))) (second b (mod-lt y (pow_pos n)))) in
+          let low = symbols_low g n x y in-first in-second in-begins in
+          let r = subst (λ (z : ℕ). Right z b) (xor_zero_r a) (right_sum a 0 0 b (first a (mod-lt x (pow_pos n))) (second b (mod-lt y (pow_pos n)))) in
           record {
-            symbols = ap (low_bits (8 * g.filled)) (sym low) ∙ r.symbols ∙ ap₂ (pickedFrom rate 0) (low-mod n n x (le_refl n)) (low-mod n n y (le_refl n));
+            symbols = ap (low_bits (8 * g.filled)) (sym low) ∙ r.symbols ∙ ap₂ (picked_from rate 0) (low_mod n n x (le_refl n)) (low_mod n n y (le_refl n));
             small = subst (λ (v : ℕ). v < 2 ^ (8 * g.filled)) low r.small;
           }
 
-      pub grouped : (rate ≡ 1 → ⊥) → 0 < g.octets → g.octets ≤ 7 → (g.filled ≡ 6) ⊎ (g.filled ≡ 8) → placeAfter rate 0 (low_bits (8 * g.octets) 0) ≡ 0 → Grouped rate g
+      pub grouped : (rate ≡ 1 → ⊥) → 0 < g.octets → g.octets ≤ 7 → (g.filled ≡ 6) ⊎ (g.filled ≡ 8) → place_after rate 0 (low_bits (8 * g.octets) 0) ≡ 0 → Grouped rate g
       grouped punctured some few filled back =
           record {
             punctured = punctured;
             some = some;
             octets = few;
             filled = filled;
-            place = λ x. place-by-count (8 * g.octets) rate 0 x 0 ∙ back;
+            place = λ x. place_by_count (8 * g.octets) rate 0 x 0 ∙ back;
             symbols = λ x y. (right x y).symbols;
             small = λ x y. (right x y).small;
           }
@@ -190,9 +190,9 @@ two =
       ones = 53614281278220;
     }
 
-pub grouped-2 : Grouped 2 two
-unfolding movedUp spreadBy symbolsBy
-grouped-2 = grouped 2 two tt (omega arith) (omega arith) (omega arith) (omega arith) (omega arith) (omega arith) (inl refl) refl
+pub grouped_2 : Grouped 2 two
+unfolding moved_up spread_by symbols_by
+grouped_2 = grouped 2 two tt (omega arith) (omega arith) (omega arith) (omega arith) (omega arith) (omega arith) (inl refl) refl
 
 abbrev three : Group
 three =
@@ -208,9 +208,9 @@ three =
       ones = 4051049678932293688;
     }
 
-pub grouped-3 : Grouped 3 three
-unfolding movedUp spreadBy symbolsBy
-grouped-3 = grouped 3 three tt (omega arith) (omega arith) (omega arith) (omega arith) (omega arith) (omega arith) (inr refl) refl
+pub grouped_3 : Grouped 3 three
+unfolding moved_up spread_by symbols_by
+grouped_3 = grouped 3 three tt (omega arith) (omega arith) (omega arith) (omega arith) (omega arith) (omega arith) (inr refl) refl
 
 abbrev four : Group
 four =
@@ -226,9 +226,9 @@ four =
       ones = 68186367984608;
     }
 
-pub grouped-4 : Grouped 4 four
-unfolding movedUp spreadBy symbolsBy
-grouped-4 = grouped 4 four tt (omega arith) (omega arith) (omega arith) (omega arith) (omega arith) (omega arith) (inl refl) refl
+pub grouped_4 : Grouped 4 four
+unfolding moved_up spread_by symbols_by
+grouped_4 = grouped 4 four tt (omega arith) (omega arith) (omega arith) (omega arith) (omega arith) (omega arith) (inl refl) refl
 
 abbrev five : Group
 five =
@@ -244,6 +244,6 @@ five =
       ones = 4575727041462157184;
     }
 
-pub grouped-5 : Grouped 5 five
-unfolding movedUp spreadBy symbolsBy
-grouped-5 = grouped 5 five tt (omega arith) (omega arith) (omega arith) (omega arith) (omega arith) (omega arith) (inr refl) refl
+pub grouped_5 : Grouped 5 five
+unfolding moved_up spread_by symbols_by
+grouped_5 = grouped 5 five tt (omega arith) (omega arith) (omega arith) (omega arith) (omega arith) (omega arith) (inr refl) refl

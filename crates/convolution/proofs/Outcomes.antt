@@ -6,107 +6,107 @@ use native.Mathlib.Omega.{arith}
 use lib.ListN.{length, set, take}
 use lib.Seq.{length-take-le}
 use Rattle.refusals.specs.Order.{FirstOf}
-use Rattle.refusals.specs.Sizes.{symbolCount, octetsFor}
-use Rattle.refusals.specs.Numbers.{verdictNumber}
-use Rattle.refusals.specs.Calls.{inputOver, output, convolveOrder, coderCloseOrder}
-use Rattle.refusals.specs.Working.{coderParameters}
+use Rattle.refusals.specs.Sizes.{symbol_count, octets_for}
+use Rattle.refusals.specs.Numbers.{verdict_number}
+use Rattle.refusals.specs.Calls.{input_over, output, convolve_order, coder_close_order}
+use Rattle.refusals.specs.Working.{coder_parameters}
 use Rattle.refusals.specs.declared.Parameter.{Parameter}
 use Rattle.refusals.specs.declared.Verdict.{Verdict}
 use Rattle.refusals.specs.declared.Verdict.TheVariants as verdict
-use Rattle.refusals.proofs.Orders.{accepted-clear, first-accepts, not-different}
-use Rattle.refusals.proofs.Legal.{LegalCoder, coder-numbers, accepted-coder}
-use Rattle.refusals.proofs.Verdicts.{parameter-nonzero, same-verdict, passed}
+use Rattle.refusals.proofs.Orders.{accepted_clear, first_accepts, not_different}
+use Rattle.refusals.proofs.Legal.{LegalCoder, coder_numbers, accepted_coder}
+use Rattle.refusals.proofs.Verdicts.{parameter_nonzero, same_verdict, passed}
 use Rattle.convolution.specs.declared.State.{State}
 use Rattle.convolution.specs.declared.Ran.{Ran}
 use Rattle.convolution.specs.declared.Convolved.TheVariants.{Done, Refused}
-use Rattle.convolution.specs.Coder.{low_bits, firstOctet, packed}
-use Rattle.convolution.specs.Outcome.{convolvedNumber, convolvedCount, held_of, ConvolveOutcome, CloseOutcome}
+use Rattle.convolution.specs.Coder.{low_bits, first_octet, packed}
+use Rattle.convolution.specs.Outcome.{convolved_number, convolved_count, held_of, ConvolveOutcome, CloseOutcome}
 use Rattle.convolution.specs.Working.{Accepted}
-use Rattle.convolution.proofs.Bits.{low-length}
-use Rattle.convolution.proofs.Packing.{packed-short}
+use Rattle.convolution.proofs.Bits.{low_length}
+use Rattle.convolution.proofs.Packing.{packed_short}
 
 -- What is known of the numbers once no check is due.
 pub record Legal (r : ℕ) (s : State) (octets symbols : ℕ) : Type 0 where
   pub coder : LegalCoder r s.register s.place s.holds
   pub few : octets ≤ 2044
-  pub room : symbols ≡ (s.holds + symbolCount r s.place octets) / 8
+  pub room : symbols ≡ (s.holds + symbol_count r s.place octets) / 8
 
-pub legal : (r : ℕ) (s : State) (octets symbols : ℕ) → FirstOf (convolveOrder r s.register s.place s.holds octets symbols) 0 → Legal r s octets symbols
+pub legal : (r : ℕ) (s : State) (octets symbols : ℕ) → FirstOf (convolve_order r s.register s.place s.holds octets symbols) 0 → Legal r s octets symbols
 legal r s octets symbols f =
-    let order = convolveOrder r s.register s.place s.holds octets symbols in
-    let front = coderParameters r s.register s.place s.holds in
-    let required = (s.holds + symbolCount r s.place octets) / 8 in
-    let clear = accepted-clear order (omega arith, (omega arith, (omega arith, (omega arith, (omega arith, (omega arith, tt)))))) f in
+    let order = convolve_order r s.register s.place s.holds octets symbols in
+    let front = coder_parameters r s.register s.place s.holds in
+    let required = (s.holds + symbol_count r s.place octets) / 8 in
+    let clear = accepted_clear order (omega arith, (omega arith, (omega arith, (omega arith, (omega arith, (omega arith, tt)))))) f in
     record {
-      coder = accepted-coder r s.register s.place s.holds (first-accepts (FirstOf (inputOver 2044 octets ∷ output symbols required ∷ []) 0) front (coder-numbers r s.register s.place s.holds) f);
+      coder = accepted_coder r s.register s.place s.holds (first_accepts (FirstOf (input_over 2044 octets ∷ output symbols required ∷ []) 0) front (coder_numbers r s.register s.place s.holds) f);
       few = omega (arith, clear.1.1.1.1.0);
-      room = not-different symbols required clear.1.1.1.1.1.0;
+      room = not_different symbols required clear.1.1.1.1.1.0;
     }
 
 pub record LegalClose (r : ℕ) (s : State) (symbols : ℕ) : Type 0 where
   pub coder : LegalCoder r s.register s.place s.holds
-  pub room : symbols ≡ octetsFor s.holds
+  pub room : symbols ≡ octets_for s.holds
 
-pub legal-close : (r : ℕ) (s : State) (symbols : ℕ) → FirstOf (coderCloseOrder r s.register s.place s.holds symbols) 0 → LegalClose r s symbols
-legal-close r s symbols f =
-    let order = coderCloseOrder r s.register s.place s.holds symbols in
-    let front = coderParameters r s.register s.place s.holds in
-    let clear = accepted-clear order (omega arith, (omega arith, (omega arith, (omega arith, (omega arith, tt))))) f in
+pub legal_close : (r : ℕ) (s : State) (symbols : ℕ) → FirstOf (coder_close_order r s.register s.place s.holds symbols) 0 → LegalClose r s symbols
+legal_close r s symbols f =
+    let order = coder_close_order r s.register s.place s.holds symbols in
+    let front = coder_parameters r s.register s.place s.holds in
+    let clear = accepted_clear order (omega arith, (omega arith, (omega arith, (omega arith, (omega arith, tt))))) f in
     record {
-      coder = accepted-coder r s.register s.place s.holds (first-accepts (FirstOf (output symbols (octetsFor s.holds) ∷ []) 0) front (coder-numbers r s.register s.place s.holds) f);
-      room = not-different symbols (octetsFor s.holds) clear.1.1.1.1.0;
+      coder = accepted_coder r s.register s.place s.holds (first_accepts (FirstOf (output symbols (octets_for s.holds) ∷ []) 0) front (coder_numbers r s.register s.place s.holds) f);
+      room = not_different symbols (octets_for s.holds) clear.1.1.1.1.0;
     }
 
-module _ (rate : ℕ) (s : State) (octets before : List ℕ) (v : Verdict) (first : FirstOf (convolveOrder rate s.register s.place s.holds (length octets) (length before)) (verdictNumber v)) where
-  pub refused-outcome : (p : Parameter) → v ≡ verdict.Refused p → ConvolveOutcome rate s octets before (record { answer = Refused p; state = s }) before
-  refused-outcome p e =
+module _ (rate : ℕ) (s : State) (octets before : List ℕ) (v : Verdict) (first : FirstOf (convolve_order rate s.register s.place s.holds (length octets) (length before)) (verdict_number v)) where
+  pub refused_outcome : (p : Parameter) → v ≡ verdict.Refused p → ConvolveOutcome rate s octets before (record { answer = Refused p; state = s }) before
+  refused_outcome p e =
       record {
-        number = same-verdict (convolveOrder rate s.register s.place s.holds (length octets) (length before)) v (verdict.Refused p) e first;
+        number = same_verdict (convolve_order rate s.register s.place s.holds (length octets) (length before)) v (verdict.Refused p) e first;
         refused = λ n. (refl, refl);
-        count = λ none. absurd (parameter-nonzero p none);
-        symbols = λ none. absurd (parameter-nonzero p none);
-        state = λ none. absurd (parameter-nonzero p none);
+        count = λ none. absurd (parameter_nonzero p none);
+        symbols = λ none. absurd (parameter_nonzero p none);
+        state = λ none. absurd (parameter_nonzero p none);
       }
 
-  pub done-outcome : (r : Ran) (after : List ℕ) → v ≡ verdict.Accepted → Accepted rate s octets r after → ConvolveOutcome rate s octets before r after
-  done-outcome r after e done =
-      let order = convolveOrder rate s.register s.place s.holds (length octets) (length before) in
-      let none : convolvedNumber r.answer ≡ 0 = ap convolvedNumber done.count in
+  pub done_outcome : (r : Ran) (after : List ℕ) → v ≡ verdict.Accepted → Accepted rate s octets r after → ConvolveOutcome rate s octets before r after
+  done_outcome r after e done =
+      let order = convolve_order rate s.register s.place s.holds (length octets) (length before) in
+      let none : convolved_number r.answer ≡ 0 = ap convolved_number done.count in
       record {
         number = subst (λ (n : ℕ). FirstOf order n) (sym none) (passed order v e first);
         refused = λ some. absurd (some none);
-        count = λ n. ap convolvedCount done.count;
+        count = λ n. ap convolved_count done.count;
         symbols = λ n. done.symbols;
         state = λ n. done.state;
       }
 
-module _ (rate : ℕ) (s : State) (before : List ℕ) (v : Verdict) (first : FirstOf (coderCloseOrder rate s.register s.place s.holds (length before)) (verdictNumber v)) where
-  pub close-refused : (p : Parameter) → v ≡ verdict.Refused p → CloseOutcome rate s before (Refused p) before
-  close-refused p e =
+module _ (rate : ℕ) (s : State) (before : List ℕ) (v : Verdict) (first : FirstOf (coder_close_order rate s.register s.place s.holds (length before)) (verdict_number v)) where
+  pub close_refused : (p : Parameter) → v ≡ verdict.Refused p → CloseOutcome rate s before (Refused p) before
+  close_refused p e =
       record {
-        number = same-verdict (coderCloseOrder rate s.register s.place s.holds (length before)) v (verdict.Refused p) e first;
+        number = same_verdict (coder_close_order rate s.register s.place s.holds (length before)) v (verdict.Refused p) e first;
         refused = λ n. refl;
-        count = λ none. absurd (parameter-nonzero p none);
-        symbols = λ none. absurd (parameter-nonzero p none);
+        count = λ none. absurd (parameter_nonzero p none);
+        symbols = λ none. absurd (parameter_nonzero p none);
       }
 
-  pub close-done : (n : ℕ) (after : List ℕ) → v ≡ verdict.Accepted → n ≡ s.holds → after ≡ packed (held_of s) → CloseOutcome rate s before (Done n) after
-  close-done n after e count packs =
+  pub close_done : (n : ℕ) (after : List ℕ) → v ≡ verdict.Accepted → n ≡ s.holds → after ≡ packed (held_of s) → CloseOutcome rate s before (Done n) after
+  close_done n after e count packs =
       record {
-        number = passed (coderCloseOrder rate s.register s.place s.holds (length before)) v e first;
+        number = passed (coder_close_order rate s.register s.place s.holds (length before)) v e first;
         refused = λ some. absurd (some refl);
         count = λ none. count;
         symbols = λ none. packs;
       }
 
 -- With no symbol held nothing is written, else one octet.
-pub closed_none : (s : State) (before : List ℕ) → s.holds ≡ 0 → length before ≡ octetsFor s.holds → before ≡ packed (held_of s)
+pub closed_none : (s : State) (before : List ℕ) → s.holds ≡ 0 → length before ≡ octets_for s.holds → before ≡ packed (held_of s)
 closed_none s [] e long = sym (ap (λ (n : ℕ). packed (take n (low_bits 8 s.held))) e)
 closed_none s (x ∷ before) e long = absurd (omega arith)
 
-pub closed_some : (s : State) (before : List ℕ) (v : ℕ) → 0 < s.holds → s.holds < 8 → length before ≡ octetsFor s.holds → v ≡ firstOctet (held_of s) → set before 0 v ≡ packed (held_of s)
+pub closed_some : (s : State) (before : List ℕ) (v : ℕ) → 0 < s.holds → s.holds < 8 → length before ≡ octets_for s.holds → v ≡ first_octet (held_of s) → set before 0 v ≡ packed (held_of s)
 closed_some s [] v some few long e = absurd (omega arith)
 closed_some s (x ∷ y ∷ before) v some few long e = absurd (omega arith)
 closed_some s (x ∷ []) v some few long e =
-    let n : length (held_of s) ≡ s.holds = length-take-le s.holds (low_bits 8 s.held) (omega (arith, low-length 8 s.held)) in
-    ap (λ (y : ℕ). y ∷ []) e ∙ sym (packed-short (held_of s) (omega arith) (omega arith))
+    let n : length (held_of s) ≡ s.holds = length-take-le s.holds (low_bits 8 s.held) (omega (arith, low_length 8 s.held)) in
+    ap (λ (y : ℕ). y ∷ []) e ∙ sym (packed_short (held_of s) (omega arith) (omega arith))

@@ -10,54 +10,54 @@ use lib.Seq.{take-suc-set, drop-cons, length-take-le}
 use Rattle.convolution.specs.Coder.{low_bits, bits_of, inverted, symbols_from}
 use Rattle.convolution.specs.Working.{stream, Alike, Filled, Ready, Kept}
 use Rattle.convolution.specs.declared.Flow.{Flow}
-use Rattle.convolution.proofs.Bits.{low-mod, low-split, low-length, bits-append, bits-length}
+use Rattle.convolution.proofs.Bits.{low_mod, low_split, low_length, bits-append, bits-length}
 
 -- The test of the rate decides on the inversion.
-pub at-half : (rate symbol : ℕ) → rate ≡ 1 → inverted rate symbol ≡ 1 - symbol
-at-half rate symbol e = simp (eq-eqb rate 1 e)
+pub at_half : (rate symbol : ℕ) → rate ≡ 1 → inverted rate symbol ≡ 1 - symbol
+at_half rate symbol e = simp (eq-eqb rate 1 e)
 
-pub at-punctured : (rate symbol : ℕ) → (rate ≡ 1 → ⊥) → inverted rate symbol ≡ symbol
-at-punctured rate symbol n = simp (ne_eqb rate 1 n)
+pub at_punctured : (rate symbol : ℕ) → (rate ≡ 1 → ⊥) → inverted rate symbol ≡ symbol
+at_punctured rate symbol n = simp (ne_eqb rate 1 n)
 
 -- One octet more is written: its eight symbols are held no longer.
-pub octet-written : (symbols : List ℕ) (at held left more v : ℕ) →
+pub octet_written : (symbols : List ℕ) (at held left more v : ℕ) →
     at < length symbols →
     left ≡ 8 + more →
     v ≡ held / 2 ^ more % 256 →
     bits_of (take (at + 1) (set symbols at v)) ++ low_bits more held ≡ bits_of (take at symbols) ++ low_bits left held
-octet-written symbols at held left more v h el ev =
+octet_written symbols at held left more v h el ev =
     let octet : bits_of (v ∷ []) ≡ low_bits 8 (held / 2 ^ more) =
-    append-nil (low_bits 8 v) ∙ ap (low_bits 8) ev ∙ low-mod 8 8 (held / 2 ^ more) (omega arith) in
+    append-nil (low_bits 8 v) ∙ ap (low_bits 8) ev ∙ low_mod 8 8 (held / 2 ^ more) (omega arith) in
     let front : bits_of (take (at + 1) (set symbols at v)) ≡ bits_of (take at symbols) ++ low_bits 8 (held / 2 ^ more) =
     ap (λ (n : ℕ). bits_of (take n (set symbols at v))) (add-one at)
     ∙ ap bits_of (take-suc-set symbols at v h)
     ∙ bits-append (take at symbols) (v ∷ [])
     ∙ ap (λ (l : List ℕ). bits_of (take at symbols) ++ l) octet in
     let back : low_bits left held ≡ low_bits 8 (held / 2 ^ more) ++ low_bits more held =
-    ap (λ (n : ℕ). low_bits n held) el ∙ low-split 8 more held in
+    ap (λ (n : ℕ). low_bits n held) el ∙ low_split 8 more held in
     ap (λ (l : List ℕ). l ++ low_bits more held) front
     ∙ append_assoc (bits_of (take at symbols)) (low_bits 8 (held / 2 ^ more)) (low_bits more held)
     ∙ ap (λ (l : List ℕ). bits_of (take at symbols) ++ l) (sym back)
 
 -- So none, one or two of them.
 module _ (before : List ℕ) (at held holds : ℕ) where
-  pub ready-none : holds < 8 → Ready before at held holds before
-  ready-none h =
+  pub ready_none : holds < 8 → Ready before at held holds before
+  ready_none h =
       let n : at + holds / 8 ≡ at = omega arith in
       let m : holds % 8 ≡ holds = omega arith in
       record { long = refl; same = ap₂ (λ (x y : ℕ). bits_of (take x before) ++ low_bits y held) n m }
 
-  pub ready-one : (v : ℕ) → 8 ≤ holds → holds < 16 → at < length before → v ≡ held / 2 ^ (holds - 8) % 256 → Ready before at held holds (set before at v)
-  ready-one v low high fits e =
+  pub ready_one : (v : ℕ) → 8 ≤ holds → holds < 16 → at < length before → v ≡ held / 2 ^ (holds - 8) % 256 → Ready before at held holds (set before at v)
+  ready_one v low high fits e =
       let n : at + holds / 8 ≡ at + 1 = omega arith in
       let m : holds % 8 ≡ holds - 8 = omega arith in
       record {
         long = length-set before at v;
-        same = ap₂ (λ (x y : ℕ). bits_of (take x (set before at v)) ++ low_bits y held) n m ∙ octet-written before at held holds (holds - 8) v fits (omega arith) e;
+        same = ap₂ (λ (x y : ℕ). bits_of (take x (set before at v)) ++ low_bits y held) n m ∙ octet_written before at held holds (holds - 8) v fits (omega arith) e;
       }
 
-  pub ready-two : (v w : ℕ) → 16 ≤ holds → holds < 24 → at + 1 < length before → v ≡ held / 2 ^ (holds - 8) % 256 → w ≡ held / 2 ^ (holds - 16) % 256 → Ready before at held holds (set (set before at v) (at + 1) w)
-  ready-two v w low high fits e f =
+  pub ready_two : (v w : ℕ) → 16 ≤ holds → holds < 24 → at + 1 < length before → v ≡ held / 2 ^ (holds - 8) % 256 → w ≡ held / 2 ^ (holds - 16) % 256 → Ready before at held holds (set (set before at v) (at + 1) w)
+  ready_two v w low high fits e f =
       let n : at + holds / 8 ≡ at + 1 + 1 = omega arith in
       let m : holds % 8 ≡ holds - 16 = omega arith in
       let long = length-set before at v in
@@ -65,27 +65,27 @@ module _ (before : List ℕ) (at held holds : ℕ) where
         long = length-set (set before at v) (at + 1) w ∙ long;
         same =
             ap₂ (λ (x y : ℕ). bits_of (take x (set (set before at v) (at + 1) w)) ++ low_bits y held) n m
-            ∙ octet-written (set before at v) (at + 1) held (holds - 8) (holds - 16) w (omega arith) (omega arith) f
-            ∙ octet-written before at held holds (holds - 8) v (omega arith) (omega arith) e;
+            ∙ octet_written (set before at v) (at + 1) held (holds - 8) (holds - 16) w (omega arith) (omega arith) f
+            ∙ octet_written before at held holds (holds - 8) v (omega arith) (omega arith) e;
       }
 
 -- The state that took an octet in stands for one octet less to come.
-pub octet-gone : (rate i : ℕ) (octets : List ℕ) (s full : Flow) →
+pub octet_gone : (rate i : ℕ) (octets : List ℕ) (s full : Flow) →
     i < length octets →
     Filled rate s (get_or octets i 0) full →
     Alike rate full (bits_of (drop (i + 1) octets)) s (bits_of (drop i octets))
-octet-gone rate i octets s full h took =
+octet_gone rate i octets s full h took =
     let next : drop i octets ≡ get_or octets i 0 ∷ drop (i + 1) octets =
     drop-cons octets i 0 h ∙ ap (λ (n : ℕ). get_or octets i 0 ∷ drop n octets) (sym (add-one i)) in
     subst (λ (l : List ℕ). Alike rate full (bits_of (drop (i + 1) octets)) s (bits_of l)) (sym next) (took.same (bits_of (drop (i + 1) octets)))
 
 -- Octets that are written and symbols that stay held are the symbols that were held.
-pub octets-out : (rate written : ℕ) (before after bits whole : List ℕ) (full kept : Flow) →
+pub octets_out : (rate written : ℕ) (before after bits whole : List ℕ) (full kept : Flow) →
     Ready before written full.held full.holds after →
     Kept full kept →
     bits_of (take written before) ++ stream rate full bits ≡ whole →
     bits_of (take (written + full.holds / 8) after) ++ stream rate kept bits ≡ whole
-octets-out rate written before after bits whole full kept ready keeps e =
+octets_out rate written before after bits whole full kept ready keeps e =
     let out = bits_of (take (written + full.holds / 8) after) in
     let rest = symbols_from rate full.register full.place bits in
     let same : stream rate kept bits ≡ low_bits (full.holds % 8) full.held ++ rest =
@@ -101,7 +101,7 @@ pub lengths : (front whole rest : List ℕ) (n held : ℕ) → bits_of front ++ 
 lengths front whole rest n held e =
     ap length (sym e)
     ∙ length-append (bits_of front) (low_bits n held ++ rest)
-    ∙ ap₂ ◌+◌ (bits-length front) (length-append (low_bits n held) rest ∙ ap (λ (m : ℕ). m + length rest) (low-length n held))
+    ∙ ap₂ ◌+◌ (bits-length front) (length-append (low_bits n held) rest ∙ ap (λ (m : ℕ). m + length rest) (low_length n held))
 
 -- There is room for the whole octets that one octet more completes.
 pub room : (rate i written : ℕ) (octets symbols whole : List ℕ) (s full : Flow) →
@@ -114,7 +114,7 @@ pub room : (rate i written : ℕ) (octets symbols whole : List ℕ) (s full : Fl
 room rate i written octets symbols whole s full h filled w enough e =
     let front = take written symbols in
     let n : length front ≡ written = length-take-le written symbols w in
-    let gone = ap (λ (l : List ℕ). bits_of front ++ l) (octet-gone rate i octets s full h filled).symbols ∙ e in
+    let gone = ap (λ (l : List ℕ). bits_of front ++ l) (octet_gone rate i octets s full h filled).symbols ∙ e in
     let l = lengths front whole _ full.holds full.held gone in
     omega arith
 

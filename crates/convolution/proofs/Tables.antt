@@ -8,10 +8,10 @@ use lib.Dec.{T, eqb, eqb→eq}
 use lib.ListN.{get_or}
 use Rattle.field.proofs.Below.{both, both_left, both_right, all_below, at-below}
 use Rattle.refusals.specs.Order.{OneOf}
-use Rattle.refusals.specs.Sizes.{period, rates, symbolCount}
+use Rattle.refusals.specs.Sizes.{period, rates, symbol_count}
 use Rattle.convolution.specs.Coder.{low_bits}
-use Rattle.convolution.specs.Working.{patternsFrom, Rows}
-use Rattle.convolution.proofs.Count.{each-rate}
+use Rattle.convolution.specs.Working.{patterns_from, Rows}
+use Rattle.convolution.proofs.Count.{each_rate}
 
 -- A test of two lists.
 abbrev pub same : List ℕ → List ℕ → Bool
@@ -40,7 +40,7 @@ periods = 1 ∷ 2 ∷ 3 ∷ 5 ∷ 7 ∷ []
 
 -- A row of the code is right for its rate, by a computed test of its places.
 tested : (rate : ℕ) → OneOf rates rate → get_or periods (rate - 1) 0 ≡ period rate → get_or periods (rate - 1) 0 ≤ 7 →
-    T (all_below (get_or periods (rate - 1) 0) (λ place. same (low_bits 8 (get_or (get_or masks (rate - 1) []) place 0)) (patternsFrom rate place 8))) →
+    T (all_below (get_or periods (rate - 1) 0) (λ place. same (low_bits 8 (get_or (get_or masks (rate - 1) []) place 0)) (patterns_from rate place 8))) →
     Rows rate (get_or periods (rate - 1) 0) (get_or masks (rate - 1) [])
 tested rate legal bits most test =
     record {
@@ -48,14 +48,14 @@ tested rate legal bits most test =
       most = most;
       legal = legal;
       masks = λ place h.
-          same_lists (low_bits 8 (get_or (get_or masks (rate - 1) []) place 0)) (patternsFrom rate place 8)
-          (at-below (λ place. same (low_bits 8 (get_or (get_or masks (rate - 1) []) place 0)) (patternsFrom rate place 8)) (get_or periods (rate - 1) 0) test place h);
+          same_lists (low_bits 8 (get_or (get_or masks (rate - 1) []) place 0)) (patterns_from rate place 8)
+          (at-below (λ place. same (low_bits 8 (get_or (get_or masks (rate - 1) []) place 0)) (patterns_from rate place 8)) (get_or periods (rate - 1) 0) test place h);
     }
 
 pub listed : (rate n : ℕ) → OneOf rates rate → n ≡ rate - 1 → Rows rate (get_or periods n 0) (get_or masks n [])
 listed rate n legal e =
     subst (λ (m : ℕ). Rows rate (get_or periods m 0) (get_or masks m [])) (sym e)
-    (each-rate (λ r. OneOf rates r → Rows r (get_or periods (r - 1) 0) (get_or masks (r - 1) []))
+    (each_rate (λ r. OneOf rates r → Rows r (get_or periods (r - 1) 0) (get_or masks (r - 1) []))
     (λ l. tested 1 l refl (omega arith) tt)
     (λ l. tested 2 l refl (omega arith) tt)
     (λ l. tested 3 l refl (omega arith) tt)
@@ -64,9 +64,9 @@ listed rate n legal e =
     rate legal legal)
 
 -- At most two symbols for each bit.
-pub symbols-most : (rate place n : ℕ) → OneOf rates rate → symbolCount rate place n ≤ 16 * n
-symbols-most rate place n = each-rate (λ r. symbolCount r place n ≤ 16 * n) (omega arith) (omega arith) (omega arith) (omega arith) (omega arith) rate
+pub symbols_most : (rate place n : ℕ) → OneOf rates rate → symbol_count rate place n ≤ 16 * n
+symbols_most rate place n = each_rate (λ r. symbol_count r place n ≤ 16 * n) (omega arith) (omega arith) (omega arith) (omega arith) (omega arith) rate
 
 -- No period is longer than a row.
-pub period-most : (rate : ℕ) → OneOf rates rate → period rate ≤ 7
-period-most = each-rate (λ r. period r ≤ 7) (omega arith) (omega arith) (omega arith) (omega arith) (omega arith)
+pub period_most : (rate : ℕ) → OneOf rates rate → period rate ≤ 7
+period_most = each_rate (λ r. period r ≤ 7) (omega arith) (omega arith) (omega arith) (omega arith) (omega arith)

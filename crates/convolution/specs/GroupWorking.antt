@@ -4,24 +4,24 @@ use Rattle.std.specs.Prelude.{◌≡◌, ◌⊎◌, List, ◌++◌, ℕ, ◌+◌
 use Rattle.std.specs.Int.Bits.{bit_xor, bit_and}
 use Rattle.convolution.specs.declared.Group.{Group}
 use Rattle.convolution.specs.declared.Progress.{Progress}
-use Rattle.convolution.specs.Coder.{low_bits, bits_of, symbols_from, registerAfter, placeAfter}
-use Rattle.convolution.specs.Working.{stream, sumsOf, pickedFrom, Sound}
+use Rattle.convolution.specs.Coder.{low_bits, bits_of, symbols_from, register_after, place_after}
+use Rattle.convolution.specs.Working.{stream, sums_of, picked_from, Sound}
 
 -- The lowest bits, however many, are the sums by the vector for the window's.
 abbrev pub SumsBy : List ℕ → ℕ → ℕ → Type 0
-SumsBy vector window r = (n : ℕ) → low_bits n r ≡ sumsOf vector (window / 2 ^ n % 64) (low_bits n window)
+SumsBy vector window r = (n : ℕ) → low_bits n r ≡ sums_of vector (window / 2 ^ n % 64) (low_bits n window)
 
 -- The bits that the mask has go up by so many places; what leaves 64 bits is lost.
-unfoldable pub movedUp : ℕ → ℕ → ℕ → ℕ
-movedUp mask by x = bit_xor (bit_xor x (bit_and x mask)) (bit_and x mask * 2 ^ by % 2 ^ 64)
+unfoldable pub moved_up : ℕ → ℕ → ℕ → ℕ
+moved_up mask by x = bit_xor (bit_xor x (bit_and x mask)) (bit_and x mask * 2 ^ by % 2 ^ 64)
 
 -- Each bit goes up to its symbol's place.
-unfoldable pub spreadBy : Group → ℕ → ℕ
-spreadBy g x = movedUp g.ones 1 (movedUp g.twos 2 (movedUp g.fours 4 (movedUp g.eights 8 x)))
+unfoldable pub spread_by : Group → ℕ → ℕ
+spread_by g x = moved_up g.ones 1 (moved_up g.twos 2 (moved_up g.fours 4 (moved_up g.eights 8 x)))
 
 -- The symbols of C1 and C2 of a group's bits: of each bit the last, and above it, where a period begins, C1.
-unfoldable pub symbolsBy : Group → ℕ → ℕ → ℕ
-symbolsBy g x y = bit_xor (spreadBy g (bit_xor (bit_and y g.second) (bit_and x g.first))) (spreadBy g (bit_and x g.begins) * 2 ^ 1 % 2 ^ 64)
+unfoldable pub symbols_by : Group → ℕ → ℕ → ℕ
+symbols_by g x y = bit_xor (spread_by g (bit_xor (bit_and y g.second) (bit_and x g.first))) (spread_by g (bit_and x g.begins) * 2 ^ 1 % 2 ^ 64)
 
 -- They are what the rate sends from the first place of a period on, and lead back to it.
 pub record Grouped (rate : ℕ) (g : Group) : Type 0 where
@@ -29,9 +29,9 @@ pub record Grouped (rate : ℕ) (g : Group) : Type 0 where
   pub some : 0 < g.octets
   pub octets : g.octets ≤ 7
   pub filled : (g.filled ≡ 6) ⊎ (g.filled ≡ 8)
-  pub place : (x : ℕ) → placeAfter rate 0 (low_bits (8 * g.octets) x) ≡ 0
-  pub symbols : (x y : ℕ) → low_bits (8 * g.filled) (symbolsBy g x y) ≡ pickedFrom rate 0 (low_bits (8 * g.octets) x) (low_bits (8 * g.octets) y)
-  pub small : (x y : ℕ) → symbolsBy g x y < 2 ^ (8 * g.filled)
+  pub place : (x : ℕ) → place_after rate 0 (low_bits (8 * g.octets) x) ≡ 0
+  pub symbols : (x y : ℕ) → low_bits (8 * g.filled) (symbols_by g x y) ≡ picked_from rate 0 (low_bits (8 * g.octets) x) (low_bits (8 * g.octets) y)
+  pub small : (x y : ℕ) → symbols_by g x y < 2 ^ (8 * g.filled)
 
 -- So many octets are written from `at` on, the lowest bits of a number, and what precedes them stays.
 pub record Put (before : List ℕ) (at number n : ℕ) (after : List ℕ) : Type 0 where
@@ -52,8 +52,8 @@ pub record Underway (rate : ℕ) (octets symbols : List ℕ) (p : Progress) : Ty
 pub record Turned (rate : ℕ) (octets before : List ℕ) (p : Progress) (after : List ℕ) (q : Progress) : Type 0 where
   pub long : length after ≡ length before
   pub same : whole_of rate octets after q ≡ whole_of rate octets before p
-  pub register : registerAfter q.flow.register (bits_of (drop q.read octets)) ≡ registerAfter p.flow.register (bits_of (drop p.read octets))
-  pub place : placeAfter rate q.flow.place (bits_of (drop q.read octets)) ≡ placeAfter rate p.flow.place (bits_of (drop p.read octets))
+  pub register : register_after q.flow.register (bits_of (drop q.read octets)) ≡ register_after p.flow.register (bits_of (drop p.read octets))
+  pub place : place_after rate q.flow.place (bits_of (drop q.read octets)) ≡ place_after rate p.flow.place (bits_of (drop p.read octets))
   pub sound : Sound rate q.flow
   pub further : p.read < q.read
   pub within : q.read ≤ length octets

@@ -8,20 +8,20 @@ use Rattle.convolution.specs.declared.Flow.{Flow}
 use Rattle.convolution.specs.declared.Picking.{Picking}
 use Rattle.convolution.specs.declared.Ran.{Ran}
 use Rattle.convolution.specs.declared.Convolved.TheVariants.{Done}
-use Rattle.convolution.specs.Coder.{low_bits, bits_of, connected, c1Patterns, c2Patterns, patternAt, sent, inverted, nextRegister, nextPlace, symbols_from, registerAfter, placeAfter, firstOctet, filled}
-use Rattle.convolution.specs.Outcome.{held_of, symbolsOf, toSend, stateAfter}
+use Rattle.convolution.specs.Coder.{low_bits, bits_of, connected, c1_patterns, c2_patterns, pattern_at, sent, inverted, next_register, next_place, symbols_from, register_after, place_after, first_octet, filled}
+use Rattle.convolution.specs.Outcome.{held_of, symbols_of, to_send, state_after}
 
 -- Whether C1 is sent of each of n bits from a place on.
-abbrev pub patternsFrom : ℕ → ℕ → ℕ → List ℕ
-patternsFrom rate place zero = []
-patternsFrom rate place (suc n) = patternAt c1Patterns rate place ∷ patternsFrom rate (nextPlace rate place) n
+abbrev pub patterns_from : ℕ → ℕ → ℕ → List ℕ
+patterns_from rate place zero = []
+patterns_from rate place (suc n) = pattern_at c1_patterns rate place ∷ patterns_from rate (next_place rate place) n
 
 -- The period and the row are those of the rate.
 pub record Rows (rate p : ℕ) (c1 : List ℕ) : Type 0 where
   pub bits : p ≡ period rate
   pub most : p ≤ 7
   pub legal : OneOf rates rate
-  pub masks : (place : ℕ) → place < p → low_bits 8 (get_or c1 place 0) ≡ patternsFrom rate place 8
+  pub masks : (place : ℕ) → place < p → low_bits 8 (get_or c1 place 0) ≡ patterns_from rate place 8
 
 -- What a state has yet to send: the held symbols, then those of the bits to come.
 abbrev pub stream : ℕ → Flow → List ℕ → List ℕ
@@ -35,21 +35,21 @@ pub record Sound (rate : ℕ) (s : Flow) : Type 0 where
   pub holds : s.holds < 8
 
 -- The sums by a vector for each of some bits, from a register on.
-abbrev pub sumsOf : List ℕ → ℕ → List ℕ → List ℕ
-sumsOf vector register [] = []
-sumsOf vector register (bit ∷ bits) = connected vector register bit ∷ sumsOf vector (nextRegister register bit) bits
+abbrev pub sums_of : List ℕ → ℕ → List ℕ → List ℕ
+sums_of vector register [] = []
+sums_of vector register (bit ∷ bits) = connected vector register bit ∷ sums_of vector (next_register register bit) bits
 
 -- Each of them as the rate sends C2.
-abbrev pub allInverted : ℕ → List ℕ → List ℕ
-allInverted rate [] = []
-allInverted rate (x ∷ xs) = inverted rate x ∷ allInverted rate xs
+abbrev pub all_inverted : ℕ → List ℕ → List ℕ
+all_inverted rate [] = []
+all_inverted rate (x ∷ xs) = inverted rate x ∷ all_inverted rate xs
 
 -- What is sent of C1 and C2 of some bits, from a place on.
-abbrev pub pickedFrom : ℕ → ℕ → List ℕ → List ℕ → List ℕ
-pickedFrom rate place [] ys = []
-pickedFrom rate place (x ∷ xs) [] = []
-pickedFrom rate place (x ∷ xs) (y ∷ ys) =
-    sent (patternAt c1Patterns rate place) x ++ sent (patternAt c2Patterns rate place) y ++ pickedFrom rate (nextPlace rate place) xs ys
+abbrev pub picked_from : ℕ → ℕ → List ℕ → List ℕ → List ℕ
+picked_from rate place [] ys = []
+picked_from rate place (x ∷ xs) [] = []
+picked_from rate place (x ∷ xs) (y ∷ ys) =
+    sent (pattern_at c1_patterns rate place) x ++ sent (pattern_at c2_patterns rate place) y ++ picked_from rate (next_place rate place) xs ys
 
 -- The n lowest bits of a number with a zero in front of each.
 abbrev pub spread_of : ℕ → ℕ → ℕ
@@ -65,9 +65,9 @@ abbrev pub ahead : ℕ → ℕ → ℕ
 ahead p zero = 0
 ahead p (suc place) = p - suc place
 
-abbrev pub placeBefore : ℕ → ℕ → ℕ
-placeBefore p zero = 0
-placeBefore p (suc n) = p - suc n
+abbrev pub place_before : ℕ → ℕ → ℕ
+place_before p zero = 0
+place_before p (suc n) = p - suc n
 
 -- The n lowest of some bits stand below the held symbols, of however few these are, in a number of so many bits.
 abbrev pub Joined : ℕ → ℕ → ℕ → ℕ → ℕ → Type 0
@@ -82,16 +82,16 @@ pub record Begun (p : ℕ) (s : Picking) (merged second : ℕ) (r : Picking) : T
 
 -- What is sent of eight bits' C1 and C2 joins them, and the place goes on.
 pub record Sent (rate : ℕ) (s : Flow) (first second : ℕ) (r : Flow) : Type 0 where
-  pub symbols : low_bits r.holds r.held ≡ low_bits s.holds s.held ++ pickedFrom rate s.place (low_bits 8 first) (low_bits 8 second)
-  pub place : r.place ≡ placeAfter rate s.place (low_bits 8 first)
+  pub symbols : low_bits r.holds r.held ≡ low_bits s.holds s.held ++ picked_from rate s.place (low_bits 8 first) (low_bits 8 second)
+  pub place : r.place ≡ place_after rate s.place (low_bits 8 first)
   pub small : r.place < period rate
   pub holds : r.holds ≤ 23
 
 -- A state with bits to come sends, and ends, as another does with its own.
 pub record Alike (rate : ℕ) (s : Flow) (bits : List ℕ) (t : Flow) (more : List ℕ) : Type 0 where
   pub symbols : stream rate s bits ≡ stream rate t more
-  pub register : registerAfter s.register bits ≡ registerAfter t.register more
-  pub place : placeAfter rate s.place bits ≡ placeAfter rate t.place more
+  pub register : register_after s.register bits ≡ register_after t.register more
+  pub place : place_after rate s.place bits ≡ place_after rate t.place more
 
 -- An octet went in, whatever comes after it.
 pub record Filled (rate : ℕ) (s : Flow) (octet : ℕ) (r : Flow) : Type 0 where
@@ -116,8 +116,8 @@ pub record Kept (s r : Flow) : Type 0 where
 -- All symbols are out but those held: so many whole octets, and what is left. Register and place ran on.
 pub record Run (rate : ℕ) (s : Flow) (bits : List ℕ) (r : Flow) (after : List ℕ) : Type 0 where
   pub same : bits_of (take (length (stream rate s bits) / 8) after) ++ low_bits r.holds r.held ≡ stream rate s bits
-  pub register : r.register ≡ registerAfter s.register bits
-  pub place : r.place ≡ placeAfter rate s.place bits
+  pub register : r.register ≡ register_after s.register bits
+  pub place : r.place ≡ place_after rate s.place bits
   pub sound : Sound rate r
 
 -- A state that came in, as the coder takes it up; and one that it hands back.
@@ -132,10 +132,10 @@ pub record Handed (s : Flow) (r : State) : Type 0 where
   pub register : r.register ≡ s.register
   pub place : r.place ≡ s.place
   pub holds : r.holds ≡ s.holds
-  pub held : r.held ≡ firstOctet (low_bits s.holds s.held)
+  pub held : r.held ≡ first_octet (low_bits s.holds s.held)
 
 -- What an accepted call answers and leaves.
 pub record Accepted (rate : ℕ) (s : State) (octets : List ℕ) (r : Ran) (after : List ℕ) : Type 0 where
-  pub count : r.answer ≡ Done (length (symbolsOf rate s octets))
-  pub state : r.state ≡ stateAfter rate s octets
-  pub symbols : after ≡ filled (toSend rate s octets)
+  pub count : r.answer ≡ Done (length (symbols_of rate s octets))
+  pub state : r.state ≡ state_after rate s octets
+  pub symbols : after ≡ filled (to_send rate s octets)

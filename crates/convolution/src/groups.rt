@@ -3,7 +3,7 @@ ghost use Rattle.std.specs.Prelude.{◌≡◌, ◌<◌};
 ghost use Rattle.refusals.specs.Order.{OneOf};
 ghost use Rattle.refusals.specs.Sizes.{rates};
 ghost use Rattle.convolution.specs.Coder.{g1, g2};
-ghost use Rattle.convolution.specs.GroupWorking.{SumsBy, movedUp, spreadBy, symbolsBy, Grouped};
+ghost use Rattle.convolution.specs.GroupWorking.{SumsBy, moved_up, spread_by, symbols_by, Grouped};
 
 use crate::Group;
 
@@ -88,14 +88,14 @@ pub(crate) fn wide_by_g2(window: u64) -> u64
 // The bits that the mask has go up by so many places.
 fn moved(bits: u64, mask: u64, by: usize) -> u64
     requires { by < 64 }
-    ensures { result ≡ movedUp mask by bits }
+    ensures { result ≡ moved_up mask by bits }
 {
     let up = bits & mask;
     bits ^ up ^ (up << by)
 }
 
 fn spread_out(group: Group, bits: u64) -> u64
-    ensures { result ≡ spreadBy group bits }
+    ensures { result ≡ spread_by group bits }
 {
     let eights = moved(bits, group.eights, 8);
     let fours = moved(eights, group.fours, 4);
@@ -105,7 +105,7 @@ fn spread_out(group: Group, bits: u64) -> u64
 
 // The symbols of a group, of the sums of its bits.
 pub(crate) fn group_symbols(group: Group, first: u64, second: u64) -> u64
-    ensures { result ≡ symbolsBy group first second }
+    ensures { result ≡ symbols_by group first second }
 {
     let last = (second & group.second) ^ (first & group.first);
     spread_out(group, last) ^ (spread_out(group, first & group.begins) << 1)

@@ -1,6 +1,6 @@
 // Which of the sums are sent: both of each bit at rate 1/2, else those that the pattern names.
 ghost use Rattle.std.specs.Prelude.{◌≡◌, ◌≤◌, ◌<◌};
-ghost use Rattle.convolution.specs.Working.{spread_of, mixed, ahead, placeBefore, Rows, Joined, Begun, Sent};
+ghost use Rattle.convolution.specs.Working.{spread_of, mixed, ahead, place_before, Rows, Joined, Begun, Sent};
 
 use crate::{Flow, Picking};
 
@@ -69,7 +69,7 @@ fn ahead_of(place: usize, period: usize) -> usize
 // And back.
 fn place_of(ahead: usize, period: usize) -> usize
     requires { ahead < period }
-    ensures { result ≡ placeBefore period ahead }
+    ensures { result ≡ place_before period ahead }
 {
     if ahead == 0 { 0 } else { period - ahead }
 }

@@ -2,7 +2,7 @@
 ghost use Rattle.std.specs.Prelude.{◌≡◌, ◌+◌, ◌-◌, ◌*◌, ◌/◌, ◌≤◌, ◌<◌, length};
 ghost use Rattle.refusals.specs.Order.{FirstOf};
 ghost use Rattle.refusals.specs.Sizes.{period};
-ghost use Rattle.refusals.specs.Calls.{convolveOrder};
+ghost use Rattle.refusals.specs.Calls.{convolve_order};
 ghost use Rattle.convolution.specs.Coder.{bits_of};
 ghost use Rattle.convolution.specs.Working.{stream, Rows, Sound, Opened, Handed, Run, Accepted};
 
@@ -99,7 +99,7 @@ fn own_symbols(written: usize, before: usize, after: usize) -> u32
 }
 
 pub(crate) fn run_on(rate: u32, state: State, octets: &[u8], symbols: &mut [u8]) -> Ran
-    requires { FirstOf (convolveOrder rate state.register state.place state.holds (length octets.now) (length symbols.old)) 0 }
+    requires { FirstOf (convolve_order rate state.register state.place state.holds (length octets.now) (length symbols.old)) 0 }
     ensures { Accepted rate state octets.now result symbols.new }
 {
     let periods = PERIODS;

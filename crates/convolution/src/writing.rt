@@ -1,6 +1,6 @@
 // Symbols into octets and out of them.
 ghost use Rattle.std.specs.Prelude.{◌≡◌, ◌⊎◌, ◌++◌, ◌+◌, ◌/◌, ◌%◌, ◌^◌, ◌≤◌, ◌<◌, length, take};
-ghost use Rattle.convolution.specs.Coder.{low_bits, firstOctet};
+ghost use Rattle.convolution.specs.Coder.{low_bits, first_octet};
 ghost use Rattle.convolution.specs.Working.{Ready, Kept};
 ghost use Rattle.convolution.specs.GroupWorking.{Put};
 
@@ -77,7 +77,7 @@ pub(crate) fn kept(state: Flow) -> Flow
 // So many symbols at the top of an octet, zeros below them.
 pub(crate) fn last_octet(held: u32, holds: usize) -> u8
     requires { (held < 128) × (holds < 8) }
-    ensures { result ≡ firstOctet (low_bits holds held) }
+    ensures { result ≡ first_octet (low_bits holds held) }
 {
     ((held << (8 - holds)) % 256) as u8
 }

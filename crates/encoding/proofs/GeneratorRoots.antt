@@ -5,14 +5,14 @@ use mathlib.Core.List.{List, [], ◌∷◌, ◌++◌}
 use Prim.Native.Nat.{ℕ, zero, suc, ◌+◌, ◌-◌}
 use native.Mathlib.Nat.{add-zero, zero-add, add-suc, suc-add}
 use lib.ListN.{drop, replicate}
-use Rattle.field.specs.Field.{◌⊕◌, whereSet, timesAlpha, shiftAndAdd, ◌·◌, pow, alpha}
+use Rattle.field.specs.Field.{◌⊕◌, where_set, times_alpha, shift_and_add, ◌·◌, pow, alpha}
 use Rattle.field.proofs.Powers.{pow-suc}
 use Rattle.refusals.specs.Order.{OneOf}
 use Rattle.refusals.specs.Sizes.{strengths}
 use Rattle.codewords.specs.Polynomials.{◌⊞◌, scaled}
 use Rattle.codewords.specs.Locators.{Generator}
-use Rattle.codewords.proofs.Checks.{generator8, generator16, generator8-right, generator16-right}
-use Rattle.encoding.specs.Rows.{withRoot, rooted, generator}
+use Rattle.codewords.proofs.Checks.{generator8, generator16, generator8_right, generator16_right}
+use Rattle.encoding.specs.Rows.{with_root, rooted, generator}
 use Rattle.encoding.specs.Working.{table_of, StrengthTable}
 
 -- each root is the one before times alpha^11: so a test need not take each power anew
@@ -21,39 +21,39 @@ step = pow alpha 11
 
 built : ℕ → ℕ → List ℕ → List ℕ
 built z zero p = p
-built z (suc n) p = built (step · z) n (withRoot z p)
+built z (suc n) p = built (step · z) n (with_root z p)
 
-built-rooted : (m n k : ℕ) → built (pow step (m + k)) n (rooted m k) ≡ rooted m (k + n)
+built_rooted : (m n k : ℕ) → built (pow step (m + k)) n (rooted m k) ≡ rooted m (k + n)
 unfolding built rooted
-built-rooted m zero k = ap (rooted m) (sym (add-zero k))
-built-rooted m (suc n) k =
-    ap (λ (z : ℕ). built z n (rooted m (suc k))) (sym (pow-suc step (m + k)) ∙ ap (pow step) (sym (add-suc m k))) ∙ built-rooted m n (suc k) ∙ ap (rooted m) (suc-add k n ∙ sym (add-suc k n))
+built_rooted m zero k = ap (rooted m) (sym (add-zero k))
+built_rooted m (suc n) k =
+    ap (λ (z : ℕ). built z n (rooted m (suc k))) (sym (pow-suc step (m + k)) ∙ ap (pow step) (sym (add-suc m k))) ∙ built_rooted m n (suc k) ∙ ap (rooted m) (suc-add k n ∙ sym (add-suc k n))
 
 abbrev tried : ℕ → ℕ → List ℕ
 tried m n = drop 1 (built (pow step (m + 0)) n (rooted m 0))
 
-tried-is : (m n : ℕ) → tried m n ≡ drop 1 (rooted m n)
-tried-is m n = ap (drop 1) (built-rooted m n 0 ∙ ap (rooted m) (zero-add n))
+tried_is : (m n : ℕ) → tried m n ≡ drop 1 (rooted m n)
+tried_is m n = ap (drop 1) (built_rooted m n 0 ∙ ap (rooted m) (zero-add n))
 
 -- one computed test for each
 eight : generator 8 ≡ generator8
-unfolding built generator withRoot rooted generator8 ◌⊞◌ scaled pow ◌·◌ shiftAndAdd timesAlpha whereSet ◌⊕◌
-eight = sym (tried-is 120 16) ∙ refl
+unfolding built generator with_root rooted generator8 ◌⊞◌ scaled pow ◌·◌ shift_and_add times_alpha where_set ◌⊕◌
+eight = sym (tried_is 120 16) ∙ refl
 
 sixteen : generator 16 ≡ generator16
-unfolding built generator withRoot rooted generator16 ◌⊞◌ scaled pow ◌·◌ shiftAndAdd timesAlpha whereSet ◌⊕◌
-sixteen = sym (tried-is 112 32) ∙ refl
+unfolding built generator with_root rooted generator16 ◌⊞◌ scaled pow ◌·◌ shift_and_add times_alpha where_set ◌⊕◌
+sixteen = sym (tried_is 112 32) ∙ refl
 
-pub generator-right : (e : ℕ) → OneOf strengths e → Generator (128 - e) (e + e) (generator e)
-generator-right e (inl h) =
-    subst (λ (n : ℕ). Generator (128 - n) (n + n) (generator n)) (sym h) (subst (Generator 120 16) (sym eight) generator8-right)
-generator-right e (inr (inl h)) =
-    subst (λ (n : ℕ). Generator (128 - n) (n + n) (generator n)) (sym h) (subst (Generator 112 32) (sym sixteen) generator16-right)
-generator-right e (inr (inr o)) = absurd o
+pub generator_right : (e : ℕ) → OneOf strengths e → Generator (128 - e) (e + e) (generator e)
+generator_right e (inl h) =
+    subst (λ (n : ℕ). Generator (128 - n) (n + n) (generator n)) (sym h) (subst (Generator 120 16) (sym eight) generator8_right)
+generator_right e (inr (inl h)) =
+    subst (λ (n : ℕ). Generator (128 - n) (n + n) (generator n)) (sym h) (subst (Generator 112 32) (sym sixteen) generator16_right)
+generator_right e (inr (inr o)) = absurd o
 
 -- so the table of each is known by its coefficients
-pub table-8 : (table : List ℕ) → table ≡ table_of (generator8 ++ replicate 16 0) → StrengthTable 8 table
-table-8 table listed = listed ∙ ap (λ (g : List ℕ). table_of (g ++ replicate 16 0)) (sym eight)
+pub table_8 : (table : List ℕ) → table ≡ table_of (generator8 ++ replicate 16 0) → StrengthTable 8 table
+table_8 table listed = listed ∙ ap (λ (g : List ℕ). table_of (g ++ replicate 16 0)) (sym eight)
 
-pub table-16 : (table : List ℕ) → table ≡ table_of (generator16 ++ replicate 0 0) → StrengthTable 16 table
-table-16 table listed = listed ∙ ap (λ (g : List ℕ). table_of (g ++ replicate 0 0)) (sym sixteen)
+pub table_16 : (table : List ℕ) → table ≡ table_of (generator16 ++ replicate 0 0) → StrengthTable 16 table
+table_16 table listed = listed ∙ ap (λ (g : List ℕ). table_of (g ++ replicate 0 0)) (sym sixteen)

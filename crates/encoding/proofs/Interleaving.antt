@@ -8,21 +8,21 @@ use native.Mathlib.Decide.{dec_lt}
 use native.Mathlib.Omega.{arith}
 use lib.ListN.{length, take, drop, get_or, replicate, length-replicate}
 use lib.Seq.{drop_at, get_or-take, get_or-append-add, ext_get_or}
-use Rattle.codewords.specs.Words.{Octets, differing, withFill}
-use Rattle.codewords.proofs.LineWords.{unless-alike, differing-front}
-use Rattle.encoding.specs.Blocks.{sentFrom, word_of}
+use Rattle.codewords.specs.Words.{Octets, differing, with_fill}
+use Rattle.codewords.proofs.LineWords.{unless_alike, differing-front}
+use Rattle.encoding.specs.Blocks.{sent_from, word_of}
 
 -- ---- places
 
-pub symbol-of : (i k w : ℕ) → w < i → (k * i + w) / i ≡ k
-symbol-of i k w h =
+pub symbol_of : (i k w : ℕ) → w < i → (k * i + w) / i ≡ k
+symbol_of i k w h =
     ap (λ (n : ℕ). n / i) (add_comm (k * i) w) ∙ add-mul-div_right w k (omega arith) ∙ ap (λ (n : ℕ). n + k) (div-eq_of_lt h) ∙ zero-add k
 
-pub word-of : (i k w : ℕ) → w < i → (k * i + w) % i ≡ w
-word-of i k w h = mul-add-mod_self_right k i w ∙ mod-eq_of_lt h
+pub word_of_lem : (i k w : ℕ) → w < i → (k * i + w) % i ≡ w
+word_of_lem i k w h = mul-add-mod_self_right k i w ∙ mod-eq_of_lt h
 
-pub place-symbol : (i a b x y : ℕ) → x < i → y < i → a * i + x ≡ b * i + y → a ≡ b
-place-symbol i a b x y h l e = sym (symbol-of i a x h) ∙ ap (λ (n : ℕ). n / i) e ∙ symbol-of i b y l
+pub place_symbol : (i a b x y : ℕ) → x < i → y < i → a * i + x ≡ b * i + y → a ≡ b
+place_symbol i a b x y h l e = sym (symbol_of i a x h) ∙ ap (λ (n : ℕ). n / i) e ∙ symbol_of i b y l
 
 -- a place of the first m symbols of all words
 pub place-below : (i k m w : ℕ) → k < m → w < i → k * i + w < m * i
@@ -31,8 +31,8 @@ place-below i k m w h l = omega (arith, mul-le-mul_right i (suc-below h))
     suc-below : k < m → k + 1 ≤ m
     suc-below h = omega arith
 
-pub symbol-below : (i k m w : ℕ) → k * i + w < m * i → k < m
-symbol-below i k m w h =
+pub symbol_below : (i k m w : ℕ) → k * i + w < m * i → k < m
+symbol_below i k m w h =
     elim (dec_lt k m) [
       | yes l ↦ l
       | no n ↦ absurd (omega (arith, mul-le-mul_right i (at_least n)))
@@ -46,8 +46,8 @@ module _ (i at start symbol word symbol' word' : ℕ) (place : at ≡ start + (s
   pub next_word : word' ≡ word + 1 → symbol' ≡ symbol → at + 1 ≡ start + (symbol' * i + word')
   next_word e s = omega (arith, ap (λ (k : ℕ). k * i) s)
 
-  pub next-symbol : word + 1 ≡ i → word' ≡ 0 → symbol' ≡ symbol + 1 → at + 1 ≡ start + (symbol' * i + word')
-  next-symbol l e s = omega (arith, ap (λ (k : ℕ). k * i) s)
+  pub next_symbol : word + 1 ≡ i → word' ≡ 0 → symbol' ≡ symbol + 1 → at + 1 ≡ start + (symbol' * i + word')
+  next_symbol l e s = omega (arith, ap (λ (k : ℕ). k * i) s)
 
 -- ---- rows that are interleaved from octet `start` on
 
@@ -57,74 +57,74 @@ interleaved rows i start n = get_or (get_or rows ((n - start) % i) []) ((n - sta
 pub interleaved-at : (rows : List (List ℕ)) (i start n j w : ℕ) → n ≡ start + (j * i + w) → w < i → get_or (get_or rows w []) j 0 ≡ interleaved rows i start n
 unfolding interleaved
 interleaved-at rows i start n j w e h =
-    ap₂ (λ (a b : ℕ). get_or (get_or rows a []) b 0) (sym (word-of i j w h)) (sym (symbol-of i j w h))
+    ap₂ (λ (a b : ℕ). get_or (get_or rows a []) b 0) (sym (word_of_lem i j w h)) (sym (symbol_of i j w h))
     ∙ ap (λ (m : ℕ). get_or (get_or rows (m % i) []) (m / i) 0) (omega arith)
 
 -- ---- the symbols of a word
 
-pub sent-length : (i : ℕ) (block : List ℕ) (w k n : ℕ) → length (sentFrom i block w k n) ≡ n
-unfolding sentFrom
+pub sent-length : (i : ℕ) (block : List ℕ) (w k n : ℕ) → length (sent_from i block w k n) ≡ n
+unfolding sent_from
 sent-length i block w k zero = refl
 sent-length i block w k (suc n) = ap suc (sent-length i block w (suc k) n)
 
-pub sent-at : (i : ℕ) (block : List ℕ) (w k n j : ℕ) → j < n → get_or (sentFrom i block w k n) j 0 ≡ get_or block ((k + j) * i + w) 0
-unfolding sentFrom
+pub sent-at : (i : ℕ) (block : List ℕ) (w k n j : ℕ) → j < n → get_or (sent_from i block w k n) j 0 ≡ get_or block ((k + j) * i + w) 0
+unfolding sent_from
 sent-at i block w k zero j h = absurd (omega arith)
 sent-at i block w k (suc n) zero h = ap (λ (m : ℕ). get_or block (m * i + w) 0) (sym (add-zero k))
 sent-at i block w k (suc n) (suc j) h = sent-at i block w (suc k) n j (omega arith) ∙ ap (λ (m : ℕ). get_or block (m * i + w) 0) (omega arith)
 
 -- octet k i + w is symbol k of word w
-pub sent-symbol : (i : ℕ) (block : List ℕ) (w n k : ℕ) → k < n → get_or (sentFrom i block w 0 n) k 0 ≡ get_or block (k * i + w) 0
-sent-symbol i block w n k h = sent-at i block w 0 n k h ∙ ap (λ (m : ℕ). get_or block (m * i + w) 0) (zero-add k)
+pub sent_symbol : (i : ℕ) (block : List ℕ) (w n k : ℕ) → k < n → get_or (sent_from i block w 0 n) k 0 ≡ get_or block (k * i + w) 0
+sent_symbol i block w n k h = sent-at i block w 0 n k h ∙ ap (λ (m : ℕ). get_or block (m * i + w) 0) (zero-add k)
 
 -- and symbol q + k with the fill in front
 pub word_at : (i q : ℕ) (block : List ℕ) (w k : ℕ) → k < 255 - q → get_or (word_of i q block w) (q + k) 0 ≡ get_or block (k * i + w) 0
 word_at i q block w k h =
-    ap (λ (n : ℕ). get_or (word_of i q block w) (n + k) 0) (sym (length-replicate q 0)) ∙ get_or-append-add (replicate q 0) (sentFrom i block w 0 (255 - q)) k 0
-    ∙ sent-symbol i block w (255 - q) k h
+    ap (λ (n : ℕ). get_or (word_of i q block w) (n + k) 0) (sym (length-replicate q 0)) ∙ get_or-append-add (replicate q 0) (sent_from i block w 0 (255 - q)) k 0
+    ∙ sent_symbol i block w (255 - q) k h
 
 -- the words of two blocks that differ at the same places as two others differ in as many symbols
 module _ (i : ℕ) (a b c d : List ℕ) (alike : (m : ℕ) → (get_or a m 0 ≡ get_or b m 0) ↔ (get_or c m 0 ≡ get_or d m 0)) (w : ℕ) where
-  sent-alike : (k n : ℕ) → differing (sentFrom i a w k n) (sentFrom i b w k n) ≡ differing (sentFrom i c w k n) (sentFrom i d w k n)
-  unfolding differing sentFrom
-  sent-alike k zero = refl
-  sent-alike k (suc n) = ap₂ ◌+◌ (unless-alike (get_or a (k * i + w) 0) (get_or b (k * i + w) 0) (get_or c (k * i + w) 0) (get_or d (k * i + w) 0) (alike (k * i + w))) (sent-alike (suc k) n)
+  sent_alike : (k n : ℕ) → differing (sent_from i a w k n) (sent_from i b w k n) ≡ differing (sent_from i c w k n) (sent_from i d w k n)
+  unfolding differing sent_from
+  sent_alike k zero = refl
+  sent_alike k (suc n) = ap₂ ◌+◌ (unless_alike (get_or a (k * i + w) 0) (get_or b (k * i + w) 0) (get_or c (k * i + w) 0) (get_or d (k * i + w) 0) (alike (k * i + w))) (sent_alike (suc k) n)
 
-  pub words-alike : (q : ℕ) → differing (word_of i q a w) (word_of i q b w) ≡ differing (word_of i q c w) (word_of i q d w)
-  words-alike q =
-      differing-front (replicate q 0) (sentFrom i a w 0 (255 - q)) (sentFrom i b w 0 (255 - q)) ∙ sent-alike 0 (255 - q)
-      ∙ sym (differing-front (replicate q 0) (sentFrom i c w 0 (255 - q)) (sentFrom i d w 0 (255 - q)))
+  pub words_alike : (q : ℕ) → differing (word_of i q a w) (word_of i q b w) ≡ differing (word_of i q c w) (word_of i q d w)
+  words_alike q =
+      differing-front (replicate q 0) (sent_from i a w 0 (255 - q)) (sent_from i b w 0 (255 - q)) ∙ sent_alike 0 (255 - q)
+      ∙ sym (differing-front (replicate q 0) (sent_from i c w 0 (255 - q)) (sent_from i d w 0 (255 - q)))
 
 -- a word is known by its octets
 pub sent_is : (i : ℕ) (block : List ℕ) (w k n : ℕ) (word : List ℕ) → length word ≡ n → ((j : ℕ) → j < n → get_or block ((k + j) * i + w) 0 ≡ get_or word j 0)
-    → sentFrom i block w k n ≡ word
+    → sent_from i block w k n ≡ word
 sent_is i block w k n word size same =
-    ext_get_or 0 (sentFrom i block w k n) word (long ∙ sym size) (λ j h. sent-at i block w k n j (omega (arith, long)) ∙ same j (omega (arith, long)))
+    ext_get_or 0 (sent_from i block w k n) word (long ∙ sym size) (λ j h. sent-at i block w k n j (omega (arith, long)) ∙ same j (omega (arith, long)))
   where
-    long : length (sentFrom i block w k n) ≡ n
+    long : length (sent_from i block w k n) ≡ n
     long = sent-length i block w k n
 
 pub sent-same : (i : ℕ) (block other : List ℕ) (w k n : ℕ) → ((j : ℕ) → j < n → get_or block ((k + j) * i + w) 0 ≡ get_or other ((k + j) * i + w) 0)
-    → sentFrom i block w k n ≡ sentFrom i other w k n
+    → sent_from i block w k n ≡ sent_from i other w k n
 sent-same i block other w k n same =
-    sent_is i block w k n (sentFrom i other w k n) (sent-length i other w k n) (λ j h. same j h ∙ sym (sent-at i other w k n j h))
+    sent_is i block w k n (sent_from i other w k n) (sent-length i other w k n) (λ j h. same j h ∙ sym (sent-at i other w k n j h))
 
-pub sent-++ : (i : ℕ) (block : List ℕ) (w k m n : ℕ) → sentFrom i block w k (m + n) ≡ sentFrom i block w k m ++ sentFrom i block w (k + m) n
-unfolding sentFrom
-sent-++ i block w k zero n = ap₂ {C = List ℕ} (λ (a b : ℕ). sentFrom i block w a b) (sym (add-zero k)) (zero-add n)
+pub sent-++ : (i : ℕ) (block : List ℕ) (w k m n : ℕ) → sent_from i block w k (m + n) ≡ sent_from i block w k m ++ sent_from i block w (k + m) n
+unfolding sent_from
+sent-++ i block w k zero n = ap₂ {C = List ℕ} (λ (a b : ℕ). sent_from i block w a b) (sym (add-zero k)) (zero-add n)
 sent-++ i block w k (suc m) n =
-    ap (sentFrom i block w k) (suc-add m n)
+    ap (sent_from i block w k) (suc-add m n)
     ∙ ap {B = List ℕ} (λ (word : List ℕ). get_or block (k * i + w) 0 ∷ word) (sent-++ i block w (suc k) m n
-    ∙ ap {B = List ℕ} (λ (a : ℕ). sentFrom i block w (suc k) m ++ sentFrom i block w a n) (suc-add k m ∙ sym (add-suc k m)))
+    ∙ ap {B = List ℕ} (λ (a : ℕ). sent_from i block w (suc k) m ++ sent_from i block w a n) (suc-add k m ∙ sym (add-suc k m)))
 
-pub sent-octets : (i : ℕ) (block : List ℕ) (w k n : ℕ) → ((m : ℕ) → get_or block m 0 < 256) → Octets (sentFrom i block w k n)
-unfolding sentFrom
+pub sent-octets : (i : ℕ) (block : List ℕ) (w k n : ℕ) → ((m : ℕ) → get_or block m 0 < 256) → Octets (sent_from i block w k n)
+unfolding sent_from
 sent-octets i block w k zero o = tt
 sent-octets i block w k (suc n) o = (o (k * i + w), sent-octets i block w (suc k) n o)
 
 -- the frame comes first: a word's first symbols are those of the frame
 pub sent-information : (i : ℕ) (frame block : List ℕ) (w k : ℕ) → w < i → length frame ≡ k * i → take (length frame) block ≡ frame
-    → sentFrom i block w 0 k ≡ sentFrom i frame w 0 k
+    → sent_from i block w 0 k ≡ sent_from i frame w 0 k
 sent-information i frame block w k h size first =
     sent-same i block frame w 0 k
     (λ j l. sym (get_or-take (length frame) block ((0 + j) * i + w) 0 (below j l)) ∙ ap (λ (list : List ℕ). get_or list ((0 + j) * i + w) 0) first)
@@ -135,15 +135,15 @@ sent-information i frame block w k h size first =
 -- ---- a block is known by its words
 
 -- what follows the fill of a word
-pub unfilled : (q : ℕ) (a b : List ℕ) → withFill q a ≡ withFill q b → a ≡ b
+pub unfilled : (q : ℕ) (a b : List ℕ) → with_fill q a ≡ with_fill q b → a ≡ b
 unfilled q a b e = sym (drop_at (replicate q 0) a q (length-replicate q 0)) ∙ ap (drop q) e ∙ drop_at (replicate q 0) b q (length-replicate q 0)
 
-pub known-by-words : (i n : ℕ) (a b : List ℕ) → 0 < i → length a ≡ n * i → length b ≡ n * i → ((w : ℕ) → w < i → sentFrom i a w 0 n ≡ sentFrom i b w 0 n) → a ≡ b
-known-by-words i n a b some long short same =
+pub known_by_words : (i n : ℕ) (a b : List ℕ) → 0 < i → length a ≡ n * i → length b ≡ n * i → ((w : ℕ) → w < i → sent_from i a w 0 n ≡ sent_from i b w 0 n) → a ≡ b
+known_by_words i n a b some long short same =
     ext_get_or 0 a b (long ∙ sym short)
     (λ p h. let back : p / i * i + p % i ≡ p = div-add-mod' p i in
     subst (λ (x : ℕ). get_or a x 0 ≡ get_or b x 0) back
-    (octet (p / i) (p % i) (symbol-below i (p / i) n (p % i) (subst (λ (x : ℕ). x < n * i) (sym back) (omega arith))) (mod-lt p some)))
+    (octet (p / i) (p % i) (symbol_below i (p / i) n (p % i) (subst (λ (x : ℕ). x < n * i) (sym back) (omega arith))) (mod-lt p some)))
   where
     octet : (k w : ℕ) → k < n → w < i → get_or a (k * i + w) 0 ≡ get_or b (k * i + w) 0
-    octet k w h l = sym (sent-symbol i a w n k h) ∙ ap (λ (word : List ℕ). get_or word k 0) (same w l) ∙ sent-symbol i b w n k h
+    octet k w h l = sym (sent_symbol i a w n k h) ∙ ap (λ (word : List ℕ). get_or word k 0) (same w l) ∙ sent_symbol i b w n k h

@@ -8,16 +8,16 @@ use lib.ListN.{length, take, replicate, length-replicate}
 use lib.Seq.{take_at, take-append-add}
 use Rattle.refusals.specs.Order.{FirstOf}
 use Rattle.refusals.specs.Sizes.{information}
-use Rattle.refusals.specs.Numbers.{verdictNumber}
-use Rattle.refusals.specs.Calls.{encodeOrder}
+use Rattle.refusals.specs.Numbers.{verdict_number}
+use Rattle.refusals.specs.Calls.{encode_order}
 use Rattle.refusals.specs.declared.Verdict.{Verdict}
-use Rattle.refusals.proofs.Settled.{encode-parameters-settled}
-use Rattle.codewords.specs.Words.{withFill}
-use Rattle.codewords.proofs.Codewords.{checks-unique}
-use Rattle.encoding.specs.Blocks.{sentFrom, word_of}
+use Rattle.refusals.proofs.Settled.{encode_parameters_settled}
+use Rattle.codewords.specs.Words.{with_fill}
+use Rattle.codewords.proofs.Codewords.{checks_unique}
+use Rattle.encoding.specs.Blocks.{sent_from, word_of}
 use Rattle.encoding.specs.Outcome.{Coded, EncodeOutcome}
-use Rattle.encoding.proofs.Interleaving.{sent-length, sent-++, sent-information, unfilled, known-by-words}
-use Rattle.encoding.proofs.CodedBlocks.{EncodeLegal, encode-legal}
+use Rattle.encoding.proofs.Interleaving.{sent-length, sent-++, sent-information, unfilled, known_by_words}
+use Rattle.encoding.proofs.CodedBlocks.{EncodeLegal, encode_legal}
 
 -- ---- two coded blocks of one frame are equal
 
@@ -32,40 +32,40 @@ module _ (e i q : ℕ) (frame : List ℕ) (size : ℕ) (legal : EncodeLegal e i 
   sent = omega (arith, legal.words.filled, legal.words.strong)
 
   -- the information symbols of a word, with the fill, are those of the frame
-  pub word-information : (block : List ℕ) → Coded e i q frame block → (w : ℕ) → w < i → take (255 - 2 * e) (word_of i q block w) ≡ withFill q (sentFrom i frame w 0 symbols)
+  pub word-information : (block : List ℕ) → Coded e i q frame block → (w : ℕ) → w < i → take (255 - 2 * e) (word_of i q block w) ≡ with_fill q (sent_from i frame w 0 symbols)
   word-information block C w h =
       ap (λ (n : ℕ). take n (word_of i q block w)) full
-      ∙ take-append-add (replicate q 0) (sentFrom i block w 0 (255 - q)) symbols
-      ∙ ap (withFill q) (ap (λ (n : ℕ). take symbols (sentFrom i block w 0 n)) sent
+      ∙ take-append-add (replicate q 0) (sent_from i block w 0 (255 - q)) symbols
+      ∙ ap (with_fill q) (ap (λ (n : ℕ). take symbols (sent_from i block w 0 n)) sent
       ∙ ap (take symbols) (sent-++ i block w 0 symbols (e + e))
-      ∙ take_at (sentFrom i block w 0 symbols) (sentFrom i block w (0 + symbols) (e + e)) symbols (sent-length i block w 0 symbols)
+      ∙ take_at (sent_from i block w 0 symbols) (sent_from i block w (0 + symbols) (e + e)) symbols (sent-length i block w 0 symbols)
       ∙ sent-information i frame block w symbols h legal.input C.information)
 
   module _ (a b : List ℕ) (A : Coded e i q frame a) (B : Coded e i q frame b) where
     same_word : (w : ℕ) → w < i → word_of i q a w ≡ word_of i q b w
     same_word w h =
-        checks-unique e (word_of i q a w) (word_of i q b w) (omega (arith, legal.words.strong)) (A.words w h) (B.words w h) (word-information a A w h ∙ sym (word-information b B w h))
+        checks_unique e (word_of i q a w) (word_of i q b w) (omega (arith, legal.words.strong)) (A.words w h) (B.words w h) (word-information a A w h ∙ sym (word-information b B w h))
 
-    pub coded-unique : length a ≡ size → length b ≡ size → a ≡ b
-    coded-unique long short =
-        known-by-words i (255 - q) a b (omega (arith, legal.words.some)) (long ∙ legal.output) (short ∙ legal.output)
-        (λ w h. unfilled q (sentFrom i a w 0 (255 - q)) (sentFrom i b w 0 (255 - q)) (same_word w h))
+    pub coded_unique : length a ≡ size → length b ≡ size → a ≡ b
+    coded_unique long short =
+        known_by_words i (255 - q) a b (omega (arith, legal.words.some)) (long ∙ legal.output) (short ∙ legal.output)
+        (λ w h. unfilled q (sent_from i a w 0 (255 - q)) (sent_from i b w 0 (255 - q)) (same_word w h))
 
 -- ---- encode
 
 module _ (e i q : ℕ) (frame before : List ℕ) (v w : Verdict) (a b : List ℕ) (A : EncodeOutcome e i q frame before v a) (B : EncodeOutcome e i q frame before w b) where
   same_answer : v ≡ w
-  same_answer = encode-parameters-settled v w e i q (length frame) (length before) A.number B.number
+  same_answer = encode_parameters_settled v w e i q (length frame) (length before) A.number B.number
 
-  same_number : verdictNumber v ≡ verdictNumber w
-  same_number = ap verdictNumber same_answer
+  same_number : verdict_number v ≡ verdict_number w
+  same_number = ap verdict_number same_answer
 
-  pub encode-settled : (v ≡ w) × (a ≡ b)
-  encode-settled = (
+  pub encode_settled : (v ≡ w) × (a ≡ b)
+  encode_settled = (
     same_answer,
-    elim (ℕ_discrete (verdictNumber v) 0) [
-      | yes z ↦ coded-unique e i q frame (length before)
-          (encode-legal e i q (length frame) (length before) (subst (FirstOf (encodeOrder e i q (length frame) (length before))) z A.number))
+    elim (ℕ_discrete (verdict_number v) 0) [
+      | yes z ↦ coded_unique e i q frame (length before)
+          (encode_legal e i q (length frame) (length before) (subst (FirstOf (encode_order e i q (length frame) (length before))) z A.number))
           a b (A.accepted z) (B.accepted (sym same_number ∙ z)) A.size B.size
       | no n ↦ A.refused n ∙ sym (B.refused (λ z. n (same_number ∙ z)))
     ],

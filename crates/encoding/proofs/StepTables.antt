@@ -8,56 +8,56 @@ use native.Mathlib.Omega.{arith}
 use lib.Dec.{T, eqb, eqb→eq}
 use lib.ListN.{length, get_or, length-map, get_or-append}
 use lib.Seq.{get_or-append-add, ext_get_or}
-use Rattle.field.specs.Field.{◌⊕◌, ◌·◌, whereSet}
-use Rattle.field.specs.Line.{timesMatrix, toLine, toConventional}
+use Rattle.field.specs.Field.{◌⊕◌, ◌·◌, where_set}
+use Rattle.field.specs.Line.{times_matrix, to_line, to_conventional}
 use Rattle.field.proofs.Below.{all_below, at-below}
 use Rattle.field.proofs.Sum.{⊕-zero, zero-⊕}
 use Rattle.field.proofs.Product.{⊕-·, zero-·}
-use Rattle.field.proofs.Conversions.{toLine-linear, toLine-lt, toConventional-linear, toConventional-zero}
+use Rattle.field.proofs.Conversions.{to_line_linear, to_line-lt, to_conventional_linear, to_conventional-zero}
 use Rattle.codewords.specs.Polynomials.{◌⊞◌}
-use Rattle.codewords.proofs.WordValues.{length-pair, length-snoc}
+use Rattle.codewords.proofs.WordValues.{length_pair, length_snoc}
 use Rattle.refusals.specs.Order.{OneOf}
 use Rattle.refusals.specs.Sizes.{strengths}
-use Rattle.check_rows.specs.Rows.{column, addedAt, Stepped}
+use Rattle.check_rows.specs.Rows.{column, added_at, Stepped}
 use Rattle.encoding.specs.Rows.{product, entered}
-use Rattle.encoding.specs.Working.{tableRows, EnteredBy}
+use Rattle.encoding.specs.Working.{table_rows, EnteredBy}
 
 -- ---- a linear function of an octet is a matrix of its values at the eight bits
 
-set-linear : (f : ℕ → ℕ) → f 0 ≡ 0 → (bit v : ℕ) → f (whereSet bit v) ≡ whereSet bit (f v)
-unfolding whereSet
-set-linear f z zero v = z
-set-linear f z (suc bit) v = refl
+set_linear : (f : ℕ → ℕ) → f 0 ≡ 0 → (bit v : ℕ) → f (where_set bit v) ≡ where_set bit (f v)
+unfolding where_set
+set_linear f z zero v = z
+set_linear f z (suc bit) v = refl
 
-matrix-linear : (f : ℕ → ℕ) → f 0 ≡ 0 → ((a b : ℕ) → f (a ⊕ b) ≡ f a ⊕ f b) → (rows : List ℕ) (octet : ℕ)
-    → timesMatrix (map f rows) octet ≡ f (timesMatrix rows octet)
-unfolding timesMatrix
-matrix-linear f z l [] octet = sym z
-matrix-linear f z l (row ∷ rows) octet =
-    ap₂ (λ (n x : ℕ). whereSet (octet / 2 ^ n % 2) (f row) ⊕ x) (length-map rows f) (matrix-linear f z l rows octet)
-    ∙ ap (λ (x : ℕ). x ⊕ f (timesMatrix rows octet)) (sym (set-linear f z (octet / 2 ^ length rows % 2) row))
-    ∙ sym (l (whereSet (octet / 2 ^ length rows % 2) row) (timesMatrix rows octet))
+matrix_linear : (f : ℕ → ℕ) → f 0 ≡ 0 → ((a b : ℕ) → f (a ⊕ b) ≡ f a ⊕ f b) → (rows : List ℕ) (octet : ℕ)
+    → times_matrix (map f rows) octet ≡ f (times_matrix rows octet)
+unfolding times_matrix
+matrix_linear f z l [] octet = sym z
+matrix_linear f z l (row ∷ rows) octet =
+    ap₂ (λ (n x : ℕ). where_set (octet / 2 ^ n % 2) (f row) ⊕ x) (length-map rows f) (matrix_linear f z l rows octet)
+    ∙ ap (λ (x : ℕ). x ⊕ f (times_matrix rows octet)) (sym (set_linear f z (octet / 2 ^ length rows % 2) row))
+    ∙ sym (l (where_set (octet / 2 ^ length rows % 2) row) (times_matrix rows octet))
 
-abbrev eight-bits : List ℕ
-eight-bits = 128 ∷ 64 ∷ 32 ∷ 16 ∷ 8 ∷ 4 ∷ 2 ∷ 1 ∷ []
+abbrev eight_bits : List ℕ
+eight_bits = 128 ∷ 64 ∷ 32 ∷ 16 ∷ 8 ∷ 4 ∷ 2 ∷ 1 ∷ []
 
-bits-test : T (all_below 256 (λ octet. eqb (timesMatrix eight-bits octet) octet))
-unfolding timesMatrix ◌⊕◌ whereSet
+bits-test : T (all_below 256 (λ octet. eqb (times_matrix eight_bits octet) octet))
+unfolding times_matrix ◌⊕◌ where_set
 bits-test = tt
 
-bits-sum : (octet : ℕ) → octet < 256 → timesMatrix eight-bits octet ≡ octet
-bits-sum octet h = eqb→eq (timesMatrix eight-bits octet) octet (at-below (λ x. eqb (timesMatrix eight-bits x) x) 256 bits-test octet h)
+bits-sum : (octet : ℕ) → octet < 256 → times_matrix eight_bits octet ≡ octet
+bits-sum octet h = eqb→eq (times_matrix eight_bits octet) octet (at-below (λ x. eqb (times_matrix eight_bits x) x) 256 bits-test octet h)
 
-pub toLine-zero : toLine 0 ≡ 0
-unfolding toLine ◌⊕◌ whereSet
-toLine-zero = refl
+pub to_line-zero : to_line 0 ≡ 0
+unfolding to_line ◌⊕◌ where_set
+to_line-zero = refl
 
-product-by-bits : (feedback coefficient : ℕ) → feedback < 256 → timesMatrix (map (λ (bit : ℕ). product bit coefficient) eight-bits) feedback ≡ product feedback coefficient
-product-by-bits feedback coefficient h =
-    matrix-linear (λ (x : ℕ). product x coefficient)
-    (ap (λ (x : ℕ). toLine (x · coefficient)) toConventional-zero ∙ ap toLine (zero-· coefficient) ∙ toLine-zero)
-    (λ a b. ap (λ (x : ℕ). toLine (x · coefficient)) (toConventional-linear a b)
-    ∙ ap toLine (⊕-· (toConventional a) (toConventional b) coefficient) ∙ toLine-linear (toConventional a · coefficient) (toConventional b · coefficient)) eight-bits feedback
+product_by_bits : (feedback coefficient : ℕ) → feedback < 256 → times_matrix (map (λ (bit : ℕ). product bit coefficient) eight_bits) feedback ≡ product feedback coefficient
+product_by_bits feedback coefficient h =
+    matrix_linear (λ (x : ℕ). product x coefficient)
+    (ap (λ (x : ℕ). to_line (x · coefficient)) to_conventional-zero ∙ ap to_line (zero-· coefficient) ∙ to_line-zero)
+    (λ a b. ap (λ (x : ℕ). to_line (x · coefficient)) (to_conventional_linear a b)
+    ∙ ap to_line (⊕-· (to_conventional a) (to_conventional b) coefficient) ∙ to_line_linear (to_conventional a · coefficient) (to_conventional b · coefficient)) eight_bits feedback
     ∙ ap (λ (x : ℕ). product x coefficient) (bits-sum feedback h)
 
 -- ---- the columns of a table
@@ -77,38 +77,38 @@ get_d_map f [] j h = absurd (omega arith)
 get_d_map f (x ∷ l) zero h = refl
 get_d_map f (x ∷ l) (suc j) h = get_d_map f l j (omega arith)
 
-column-is : (generator rest : List ℕ) (j : ℕ) → length generator ≡ 32 → j < 32
-    → column (tableRows generator rest) j 0 (length rest) ≡ map (λ (bit : ℕ). product bit (get_or generator j 0)) rest
-unfolding column tableRows
-column-is generator [] j size h = refl
-column-is generator (bit ∷ rest) j size h =
+column_is : (generator rest : List ℕ) (j : ℕ) → length generator ≡ 32 → j < 32
+    → column (table_rows generator rest) j 0 (length rest) ≡ map (λ (bit : ℕ). product bit (get_or generator j 0)) rest
+unfolding column table_rows
+column_is generator [] j size h = refl
+column_is generator (bit ∷ rest) j size h =
     ap₂ {C = List ℕ} (λ (x : ℕ) (xs : List ℕ). x ∷ xs)
-    (ap (λ (x : ℕ). x % 256) (ap (λ (m : ℕ). get_or (map (product bit) generator ++ tableRows generator rest) m 0) (omega arith)
-    ∙ get_or-append (map (product bit) generator) (tableRows generator rest) 0 j (omega (arith, length-map generator (product bit)))
-    ∙ get_d_map (product bit) generator j (omega arith)) ∙ mod-eq_of_lt (toLine-lt (toConventional bit · get_or generator j 0)))
-    (column-below (map (product bit) generator) (tableRows generator rest) j 0 (length rest) (length-map generator (product bit) ∙ size)
-    ∙ column-is generator rest j size h)
+    (ap (λ (x : ℕ). x % 256) (ap (λ (m : ℕ). get_or (map (product bit) generator ++ table_rows generator rest) m 0) (omega arith)
+    ∙ get_or-append (map (product bit) generator) (table_rows generator rest) 0 j (omega (arith, length-map generator (product bit)))
+    ∙ get_d_map (product bit) generator j (omega arith)) ∙ mod-eq_of_lt (to_line-lt (to_conventional bit · get_or generator j 0)))
+    (column-below (map (product bit) generator) (table_rows generator rest) j 0 (length rest) (length-map generator (product bit) ∙ size)
+    ∙ column_is generator rest j size h)
 
 -- ---- the step
 
-getD-⊞ : (u v : List ℕ) (j : ℕ) → get_or (u ⊞ v) j 0 ≡ get_or u j 0 ⊕ get_or v j 0
+get_d_⊞ : (u v : List ℕ) (j : ℕ) → get_or (u ⊞ v) j 0 ≡ get_or u j 0 ⊕ get_or v j 0
 unfolding ◌⊞◌
-getD-⊞ [] v j = sym (zero-⊕ (get_or v j 0))
-getD-⊞ (a ∷ u) [] j = sym (⊕-zero (get_or (a ∷ u) j 0))
-getD-⊞ (a ∷ u) (b ∷ v) zero = refl
-getD-⊞ (a ∷ u) (b ∷ v) (suc j) = getD-⊞ u v j
+get_d_⊞ [] v j = sym (zero-⊕ (get_or v j 0))
+get_d_⊞ (a ∷ u) [] j = sym (⊕-zero (get_or (a ∷ u) j 0))
+get_d_⊞ (a ∷ u) (b ∷ v) zero = refl
+get_d_⊞ (a ∷ u) (b ∷ v) (suc j) = get_d_⊞ u v j
 
-getD-snoc : (u : List ℕ) (j : ℕ) → get_or (u ++ (0 ∷ [])) j 0 ≡ get_or u j 0
-getD-snoc [] zero = refl
-getD-snoc [] (suc j) = refl
-getD-snoc (a ∷ u) zero = refl
-getD-snoc (a ∷ u) (suc j) = getD-snoc u j
+get_d_snoc : (u : List ℕ) (j : ℕ) → get_or (u ++ (0 ∷ [])) j 0 ≡ get_or u j 0
+get_d_snoc [] zero = refl
+get_d_snoc [] (suc j) = refl
+get_d_snoc (a ∷ u) zero = refl
+get_d_snoc (a ∷ u) (suc j) = get_d_snoc u j
 
 -- eight rows of a generator add its product with the feedback
-pub stepped-entered : (bits row : List ℕ) (symbol : ℕ) (after : List ℕ) → length row ≡ 32 → symbol ⊕ get_or row 0 0 < 256 → Stepped (addedAt bits) row symbol after → EnteredBy bits row symbol after
+pub stepped_entered : (bits row : List ℕ) (symbol : ℕ) (after : List ℕ) → length row ≡ 32 → symbol ⊕ get_or row 0 0 < 256 → Stepped (added_at bits) row symbol after → EnteredBy bits row symbol after
 unfolding entered
-stepped-entered bits [] symbol after size small S generator long listed = absurd (omega arith)
-stepped-entered bits (first ∷ row) symbol after size small S generator long listed =
+stepped_entered bits [] symbol after size small S generator long listed = absurd (omega arith)
+stepped_entered bits (first ∷ row) symbol after size small S generator long listed =
     ext_get_or 0 after (up ⊞ products) (S.size ∙ sym total) (λ j h. done j (omega (arith, S.size)))
   where
     up : List ℕ
@@ -119,20 +119,20 @@ stepped-entered bits (first ∷ row) symbol after size small S generator long li
 
     total : length (up ⊞ products) ≡ 32
     total =
-        length-pair up products (length-snoc row 0 ∙ size ∙ sym long ∙ sym (length-map generator (product (symbol ⊕ first)))) ∙ length-snoc row 0 ∙ size
+        length_pair up products (length_snoc row 0 ∙ size ∙ sym long ∙ sym (length-map generator (product (symbol ⊕ first)))) ∙ length_snoc row 0 ∙ size
 
-    whole : (j : ℕ) → j < 32 → addedAt bits (symbol ⊕ first) j ≡ get_or products j 0
+    whole : (j : ℕ) → j < 32 → added_at bits (symbol ⊕ first) j ≡ get_or products j 0
     whole j h =
-        ap (λ (t : List ℕ). timesMatrix (column t j 0 8) (symbol ⊕ first)) listed
-        ∙ ap (λ (t : List ℕ). timesMatrix t (symbol ⊕ first)) (column-is generator eight-bits j long h)
-        ∙ product-by-bits (symbol ⊕ first) (get_or generator j 0) small
+        ap (λ (t : List ℕ). times_matrix (column t j 0 8) (symbol ⊕ first)) listed
+        ∙ ap (λ (t : List ℕ). times_matrix t (symbol ⊕ first)) (column_is generator eight_bits j long h)
+        ∙ product_by_bits (symbol ⊕ first) (get_or generator j 0) small
         ∙ sym (get_d_map (product (symbol ⊕ first)) generator j (omega arith))
 
     done : (j : ℕ) → j < 32 → get_or after j 0 ≡ get_or (up ⊞ products) j 0
-    done j h = S.octet j h ∙ ap₂ (λ (x y : ℕ). x ⊕ y) (sym (getD-snoc row j)) (whole j h) ∙ sym (getD-⊞ up products j)
+    done j h = S.octet j h ∙ ap₂ (λ (x y : ℕ). x ⊕ y) (sym (get_d_snoc row j)) (whole j h) ∙ sym (get_d_⊞ up products j)
 
 -- a strength that is not 8 is 16
-pub other-strength : (e : ℕ) → OneOf strengths e → (e ≡ 8 → ⊥) → e ≡ 16
-other-strength e (inl p) n = absurd (n p)
-other-strength e (inr (inl p)) n = p
-other-strength e (inr (inr o)) n = absurd o
+pub other_strength : (e : ℕ) → OneOf strengths e → (e ≡ 8 → ⊥) → e ≡ 16
+other_strength e (inl p) n = absurd (n p)
+other_strength e (inr (inl p)) n = p
+other_strength e (inr (inr o)) n = absurd o

@@ -16,19 +16,19 @@ use Rattle.encoding.specs.Rows.{MayEnter, RowsOutcome, ChecksPut, ChecksFit, Che
 
 module _ (e i word : ℕ) (before : List (List ℕ)) (symbols : List ℕ) (a b : List (List ℕ)) (A : RowsOutcome e i word before symbols a) (B : RowsOutcome e i word before symbols b) where
   entered-both : MayEnter e i word → a ≡ b
-  entered-both may = A.whenMay may word (mod-eq_of_lt may.within) ∙ sym (B.whenMay may word (mod-eq_of_lt may.within))
+  entered-both may = A.when_may may word (mod-eq_of_lt may.within) ∙ sym (B.when_may may word (mod-eq_of_lt may.within))
 
-  entered-neither : (MayEnter e i word → ⊥) → a ≡ b
-  entered-neither not = A.whenNot not ∙ sym (B.whenNot not)
+  entered_neither : (MayEnter e i word → ⊥) → a ≡ b
+  entered_neither not = A.when_not not ∙ sym (B.when_not not)
 
-  of-strength : OneOf strengths e → a ≡ b
-  of-strength strength =
+  of_strength : OneOf strengths e → a ≡ b
+  of_strength strength =
       elim (dec_lt word i) [
         | yes h ↦ elim (dec_lt 8 i) [
-          | yes l ↦ entered-neither (λ may. omega (arith, may.deep))
+          | yes l ↦ entered_neither (λ may. omega (arith, may.deep))
           | no l ↦ entered-both (record { strength = strength; within = h; deep = omega arith })
         ]
-        | no h ↦ entered-neither (λ may. h may.within)
+        | no h ↦ entered_neither (λ may. h may.within)
       ]
 
   of_none : (e ≡ 8 → ⊥) → (e ≡ 16 → ⊥) → OneOf strengths e → ⊥
@@ -36,13 +36,13 @@ module _ (e i word : ℕ) (before : List (List ℕ)) (symbols : List ℕ) (a b :
   of_none p q (inr (inl s)) = q s
   of_none p q (inr (inr s)) = s
 
-  pub rows-entered-settled : a ≡ b
-  rows-entered-settled =
+  pub rows_entered_settled : a ≡ b
+  rows_entered_settled =
       elim (ℕ_discrete e 8) [
-        | yes p ↦ of-strength (inl p)
+        | yes p ↦ of_strength (inl p)
         | no p ↦ elim (ℕ_discrete e 16) [
-          | yes q ↦ of-strength (inr (inl q))
-          | no q ↦ entered-neither (λ may. of_none p q may.strength)
+          | yes q ↦ of_strength (inr (inl q))
+          | no q ↦ entered_neither (λ may. of_none p q may.strength)
         ]
       ]
 
@@ -65,22 +65,22 @@ module _ (rows : List (List ℕ)) (i start : ℕ) (before a b : List ℕ) where
       same n w h = A.checks ((n - start) / i) ((n - start) % i) w h ∙ sym (B.checks ((n - start) / i) ((n - start) % i) w h)
 
   module _ (A : ChecksOutcome rows i start before a) (B : ChecksOutcome rows i start before b) where
-    put-neither : (ChecksFit i start (length before) → ⊥) → a ≡ b
-    put-neither not = A.whenNot not ∙ sym (B.whenNot not)
+    put_neither : (ChecksFit i start (length before) → ⊥) → a ≡ b
+    put_neither not = A.when_not not ∙ sym (B.when_not not)
 
-    pub write-checks-settled : a ≡ b
-    write-checks-settled =
+    pub write_checks_settled : a ≡ b
+    write_checks_settled =
         elim (dec_lt 0 i) [
           | yes some ↦ elim (dec_lt 8 i) [
-            | yes deep ↦ put-neither (λ fit. omega (arith, fit.deep))
+            | yes deep ↦ put_neither (λ fit. omega (arith, fit.deep))
             | no deep ↦ elim (dec_lt (length before) start) [
-              | yes within ↦ put-neither (λ fit. omega (arith, fit.within))
+              | yes within ↦ put_neither (λ fit. omega (arith, fit.within))
               | no within ↦ elim (dec_lt (start + 32 * i) (length before)) [
-                | yes room ↦ put-neither (λ fit. omega (arith, fit.room))
+                | yes room ↦ put_neither (λ fit. omega (arith, fit.room))
                 | no room ↦ let fit : ChecksFit i start (length before) = record { some = some; deep = omega arith; within = omega arith; room = omega arith } in
-                    put_both fit (A.whenFit fit) (B.whenFit fit)
+                    put_both fit (A.when_fit fit) (B.when_fit fit)
               ]
             ]
           ]
-          | no some ↦ put-neither (λ fit. some fit.some)
+          | no some ↦ put_neither (λ fit. some fit.some)
         ]

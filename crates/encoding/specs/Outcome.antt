@@ -1,8 +1,8 @@
 -- What encode promises (document 01, "Codewords", "Refusal numbers and the order of checks").
 use Rattle.std.specs.Prelude.{◌≡◌, ◌≢◌, List, ℕ, ◌<◌, length, take}
 use Rattle.refusals.specs.Order.{FirstOf}
-use Rattle.refusals.specs.Numbers.{verdictNumber}
-use Rattle.refusals.specs.Calls.{encodeOrder}
+use Rattle.refusals.specs.Numbers.{verdict_number}
+use Rattle.refusals.specs.Calls.{encode_order}
 use Rattle.refusals.specs.declared.Verdict.{Verdict}
 use Rattle.codewords.specs.Words.{Codeword}
 use Rattle.encoding.specs.Blocks.{word_of}
@@ -14,7 +14,7 @@ pub record Coded (e i q : ℕ) (frame block : List ℕ) : Type 0 where
 
 -- Encode checks in its order. After a refusal the block is as it was.
 pub record EncodeOutcome (e i q : ℕ) (frame before : List ℕ) (answer : Verdict) (after : List ℕ) : Type 0 where
-  pub number : FirstOf (encodeOrder e i q (length frame) (length before)) (verdictNumber answer)
+  pub number : FirstOf (encode_order e i q (length frame) (length before)) (verdict_number answer)
   pub size : length after ≡ length before
-  pub refused : verdictNumber answer ≢ 0 → after ≡ before
-  pub accepted : verdictNumber answer ≡ 0 → Coded e i q frame after
+  pub refused : verdict_number answer ≢ 0 → after ≡ before
+  pub accepted : verdict_number answer ≡ 0 → Coded e i q frame after

@@ -1,19 +1,19 @@
 -- Rows of check octets, one for each word, while information symbols enter, and behind them (document 01, "Codewords").
 use Rattle.std.specs.Prelude.{◌≡◌, List, [], ◌∷◌, ◌++◌, map, ℕ, zero, suc, ◌+◌, ◌-◌, ◌*◌, ◌%◌, ◌≤◌, ◌<◌, length, take, drop, get_or, set, replicate}
 use Rattle.field.specs.Field.{◌⊕◌, ◌·◌, pow, alpha}
-use Rattle.field.specs.Line.{toLine, toConventional}
+use Rattle.field.specs.Line.{to_line, to_conventional}
 use Rattle.refusals.specs.Order.{OneOf}
 use Rattle.refusals.specs.Sizes.{strengths}
 use Rattle.codewords.specs.Polynomials.{◌⊞◌, scaled}
 
 -- A polynomial, highest coefficient first, times x + z.
-unfoldable pub withRoot : ℕ → List ℕ → List ℕ
-withRoot z p = (p ++ (0 ∷ [])) ⊞ (0 ∷ scaled z p)
+unfoldable pub with_root : ℕ → List ℕ → List ℕ
+with_root z p = (p ++ (0 ∷ [])) ⊞ (0 ∷ scaled z p)
 
 -- The polynomial whose roots are n powers of alpha^11 from the m-th on.
 unfoldable pub rooted : ℕ → ℕ → List ℕ
 rooted m zero = 1 ∷ []
-rooted m (suc n) = withRoot (pow (pow alpha 11) (m + n)) (rooted m n)
+rooted m (suc n) = with_root (pow (pow alpha 11) (m + n)) (rooted m n)
 
 -- The generator of strength e without its leading one; and in a row of 32, where zeros follow its 2e coefficients.
 unfoldable pub generator : ℕ → List ℕ
@@ -24,7 +24,7 @@ in_row e = generator e ++ replicate (32 - (e + e)) 0
 
 -- What a feedback octet on the line adds to each octet of a row: its product with the generator, on the line.
 abbrev pub product : ℕ → ℕ → ℕ
-product feedback coefficient = toLine (toConventional feedback · coefficient)
+product feedback coefficient = to_line (to_conventional feedback · coefficient)
 
 -- A word's check octets, on the line, when one more information symbol enters: they move up one place, and the product of the
 -- generator with the feedback, the symbol plus the first check octet, is added.
@@ -33,10 +33,10 @@ entered generator [] symbol = []
 entered generator (first ∷ row) symbol = (row ++ (0 ∷ [])) ⊞ map (product (symbol ⊕ first)) generator
 
 -- The rows of depth i when symbols enter from a place on: each enters the row of its word, the place modulo the depth.
-unfoldable pub rowsEntered : List ℕ → ℕ → ℕ → List (List ℕ) → List ℕ → List (List ℕ)
-rowsEntered generator i place rows [] = rows
-rowsEntered generator i place rows (symbol ∷ symbols) =
-    rowsEntered generator i (suc place) (set rows (place % i) (entered generator (get_or rows (place % i) []) symbol)) symbols
+unfoldable pub rows_entered : List ℕ → ℕ → ℕ → List (List ℕ) → List ℕ → List (List ℕ)
+rows_entered generator i place rows [] = rows
+rows_entered generator i place rows (symbol ∷ symbols) =
+    rows_entered generator i (suc place) (set rows (place % i) (entered generator (get_or rows (place % i) []) symbol)) symbols
 
 -- The rows before the first symbol.
 abbrev pub no_rows : List (List ℕ)
@@ -44,7 +44,7 @@ no_rows = replicate 8 (replicate 32 0)
 
 -- The rows when symbols have entered, the first of them at any place of that word.
 abbrev pub RowsOn : ℕ → ℕ → ℕ → List (List ℕ) → List ℕ → List (List ℕ) → Type 0
-RowsOn e i word rows symbols after = (place : ℕ) → place % i ≡ word → after ≡ rowsEntered (in_row e) i place rows symbols
+RowsOn e i word rows symbols after = (place : ℕ) → place % i ≡ word → after ≡ rows_entered (in_row e) i place rows symbols
 
 -- What symbols may enter: rows of a legal strength, one for each of at most eight words, the first symbol's word among them.
 pub record MayEnter (e i word : ℕ) : Type 0 where
@@ -54,8 +54,8 @@ pub record MayEnter (e i word : ℕ) : Type 0 where
 
 -- Symbols that may enter have entered; else the rows are as they were.
 pub record RowsOutcome (e i word : ℕ) (before : List (List ℕ)) (symbols : List ℕ) (after : List (List ℕ)) : Type 0 where
-  pub whenMay : MayEnter e i word → RowsOn e i word before symbols after
-  pub whenNot : (MayEnter e i word → ⊥) → after ≡ before
+  pub when_may : MayEnter e i word → RowsOn e i word before symbols after
+  pub when_not : (MayEnter e i word → ⊥) → after ≡ before
 
 -- From octet `start` on the block holds the rows interleaved; what stands before is as it was.
 pub record ChecksPut (rows : List (List ℕ)) (i start : ℕ) (before after : List ℕ) : Type 0 where
@@ -72,5 +72,5 @@ pub record ChecksFit (i start block : ℕ) : Type 0 where
 
 -- Rows that fit are put; else the block is as it was.
 pub record ChecksOutcome (rows : List (List ℕ)) (i start : ℕ) (before after : List ℕ) : Type 0 where
-  pub whenFit : ChecksFit i start (length before) → ChecksPut rows i start before after
-  pub whenNot : (ChecksFit i start (length before) → ⊥) → after ≡ before
+  pub when_fit : ChecksFit i start (length before) → ChecksPut rows i start before after
+  pub when_not : (ChecksFit i start (length before) → ⊥) → after ≡ before

@@ -6,63 +6,63 @@ use native.Mathlib.Omega.{arith}
 use lib.ListN.{length}
 use lib.Dec.{T, ltb, ltb→lt}
 use mathlib.Core.Bool.{Bool, true}
-use Rattle.field.specs.Field.{◌⊕◌, whereSet}
-use Rattle.field.specs.Line.{timesMatrix, lineRows, conventionalRows, toLine, toConventional}
-use Rattle.field.proofs.Below.{both, both_left, both_right, equal-below}
-use Rattle.field.proofs.Sum.{⊕-octet, ⊕-mod, ⊕-shr, ⊕-zero, ⊕-swap, bit-of}
-use Rattle.field.proofs.Product.{whereSet-bit, whereSet-lt}
+use Rattle.field.specs.Field.{◌⊕◌, where_set}
+use Rattle.field.specs.Line.{times_matrix, line_rows, conventional_rows, to_line, to_conventional}
+use Rattle.field.proofs.Below.{both, both_left, both_right, equal_below}
+use Rattle.field.proofs.Sum.{⊕_octet, ⊕-mod, ⊕_shr, ⊕-zero, ⊕_swap, bit_of_lem}
+use Rattle.field.proofs.Product.{where_set-bit, where_set-lt}
 
 -- ---- linear, whatever the rows are
 
-pub times-linear : (rows : List ℕ) (a b : ℕ) → timesMatrix rows (a ⊕ b) ≡ timesMatrix rows a ⊕ timesMatrix rows b
-unfolding timesMatrix
-times-linear [] a b = sym (⊕-zero 0)
-times-linear (row ∷ rows) a b =
-    ap₂ (λ (bit rest : ℕ). whereSet bit row ⊕ rest)
-    (ap (λ (x : ℕ). x % 2) (⊕-shr a b (length rows)) ∙ ⊕-mod (a / 2 ^ length rows) (b / 2 ^ length rows) 1) (times-linear rows a b)
-    ∙ ap (λ (x : ℕ). x ⊕ (timesMatrix rows a ⊕ timesMatrix rows b)) (whereSet-bit (bit-of (a / 2 ^ length rows)) (bit-of (b / 2 ^ length rows)) row)
-    ∙ ⊕-swap (whereSet (a / 2 ^ length rows % 2) row) (whereSet (b / 2 ^ length rows % 2) row) (timesMatrix rows a) (timesMatrix rows b)
+pub times_linear : (rows : List ℕ) (a b : ℕ) → times_matrix rows (a ⊕ b) ≡ times_matrix rows a ⊕ times_matrix rows b
+unfolding times_matrix
+times_linear [] a b = sym (⊕-zero 0)
+times_linear (row ∷ rows) a b =
+    ap₂ (λ (bit rest : ℕ). where_set bit row ⊕ rest)
+    (ap (λ (x : ℕ). x % 2) (⊕_shr a b (length rows)) ∙ ⊕-mod (a / 2 ^ length rows) (b / 2 ^ length rows) 1) (times_linear rows a b)
+    ∙ ap (λ (x : ℕ). x ⊕ (times_matrix rows a ⊕ times_matrix rows b)) (where_set-bit (bit_of_lem (a / 2 ^ length rows)) (bit_of_lem (b / 2 ^ length rows)) row)
+    ∙ ⊕_swap (where_set (a / 2 ^ length rows % 2) row) (where_set (b / 2 ^ length rows % 2) row) (times_matrix rows a) (times_matrix rows b)
 
-pub toLine-linear : (a b : ℕ) → toLine (a ⊕ b) ≡ toLine a ⊕ toLine b
-unfolding toLine
-toLine-linear = times-linear lineRows
+pub to_line_linear : (a b : ℕ) → to_line (a ⊕ b) ≡ to_line a ⊕ to_line b
+unfolding to_line
+to_line_linear = times_linear line_rows
 
-pub toConventional-linear : (a b : ℕ) → toConventional (a ⊕ b) ≡ toConventional a ⊕ toConventional b
-unfolding toConventional
-toConventional-linear = times-linear conventionalRows
+pub to_conventional_linear : (a b : ℕ) → to_conventional (a ⊕ b) ≡ to_conventional a ⊕ to_conventional b
+unfolding to_conventional
+to_conventional_linear = times_linear conventional_rows
 
 -- ---- octets go to octets
 
-allOctets : List ℕ → Bool
-allOctets [] = true
-allOctets (row ∷ rows) = both (ltb row 256) (allOctets rows)
+all_octets : List ℕ → Bool
+all_octets [] = true
+all_octets (row ∷ rows) = both (ltb row 256) (all_octets rows)
 
-times-lt : (rows : List ℕ) → T (allOctets rows) → (a : ℕ) → timesMatrix rows a < 256
-unfolding timesMatrix allOctets
+times-lt : (rows : List ℕ) → T (all_octets rows) → (a : ℕ) → times_matrix rows a < 256
+unfolding times_matrix all_octets
 times-lt [] o a = omega arith
 times-lt (row ∷ rows) o a =
-    ⊕-octet (whereSet (a / 2 ^ length rows % 2) row) (timesMatrix rows a)
-    (whereSet-lt (a / 2 ^ length rows % 2) row (ltb→lt row 256 (both_left (ltb row 256) (allOctets rows) o)))
-    (times-lt rows (both_right (ltb row 256) (allOctets rows) o) a)
+    ⊕_octet (where_set (a / 2 ^ length rows % 2) row) (times_matrix rows a)
+    (where_set-lt (a / 2 ^ length rows % 2) row (ltb→lt row 256 (both_left (ltb row 256) (all_octets rows) o)))
+    (times-lt rows (both_right (ltb row 256) (all_octets rows) o) a)
 
-pub toLine-lt : (a : ℕ) → toLine a < 256
-unfolding toLine allOctets
-toLine-lt = times-lt lineRows tt
+pub to_line-lt : (a : ℕ) → to_line a < 256
+unfolding to_line all_octets
+to_line-lt = times-lt line_rows tt
 
-pub toConventional-lt : (a : ℕ) → toConventional a < 256
-unfolding toConventional allOctets
-toConventional-lt = times-lt conventionalRows tt
+pub to_conventional-lt : (a : ℕ) → to_conventional a < 256
+unfolding to_conventional all_octets
+to_conventional-lt = times-lt conventional_rows tt
 
 -- ---- each undoes the other: a test over all octets
 
-pub conventional-line : (a : ℕ) → a < 256 → toConventional (toLine a) ≡ a
-unfolding toLine toConventional ◌⊕◌ whereSet
-conventional-line a h = equal-below (λ x. toConventional (toLine x)) (λ x. x) 256 tt a h
+pub conventional_line : (a : ℕ) → a < 256 → to_conventional (to_line a) ≡ a
+unfolding to_line to_conventional ◌⊕◌ where_set
+conventional_line a h = equal_below (λ x. to_conventional (to_line x)) (λ x. x) 256 tt a h
 
-pub line-conventional : (a : ℕ) → a < 256 → toLine (toConventional a) ≡ a
-unfolding toLine toConventional ◌⊕◌ whereSet
-line-conventional a h = equal-below (λ x. toLine (toConventional x)) (λ x. x) 256 tt a h
+pub line_conventional : (a : ℕ) → a < 256 → to_line (to_conventional a) ≡ a
+unfolding to_line to_conventional ◌⊕◌ where_set
+line_conventional a h = equal_below (λ x. to_line (to_conventional x)) (λ x. x) 256 tt a h
 
-pub toConventional-zero : toConventional 0 ≡ 0
-unfolding toConventional ◌⊕◌ whereSet
-toConventional-zero = refl
+pub to_conventional-zero : to_conventional 0 ≡ 0
+unfolding to_conventional ◌⊕◌ where_set
+to_conventional-zero = refl

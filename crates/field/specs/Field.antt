@@ -9,23 +9,23 @@ unfoldable pub ◌⊕◌ : ℕ → ℕ → ℕ
 a ⊕ b = bit_xor a b
 
 -- The element v where a bit is set, else zero.
-unfoldable pub whereSet : ℕ → ℕ → ℕ
-whereSet zero v = 0
-whereSet (suc bit) v = v
+unfoldable pub where_set : ℕ → ℕ → ℕ
+where_set zero v = 0
+where_set (suc bit) v = v
 
 -- Times alpha: one place up, and alpha^8 = alpha^7 + alpha^2 + alpha + 1 for what leaves at the top.
-unfoldable pub timesAlpha : ℕ → ℕ
-timesAlpha a = a % 128 * 2 ⊕ whereSet (a / 128 % 2) 0x87
+unfoldable pub times_alpha : ℕ → ℕ
+times_alpha a = a % 128 * 2 ⊕ where_set (a / 128 % 2) 0x87
 
 -- The sum of a, a alpha, a alpha^2 .. over the n low bits of b that are set.
-unfoldable pub shiftAndAdd : ℕ → ℕ → ℕ → ℕ
-shiftAndAdd zero a b = 0
-shiftAndAdd (suc n) a b = whereSet (b % 2) a ⊕ shiftAndAdd n (timesAlpha a) (b / 2)
+unfoldable pub shift_and_add : ℕ → ℕ → ℕ → ℕ
+shift_and_add zero a b = 0
+shift_and_add (suc n) a b = where_set (b % 2) a ⊕ shift_and_add n (times_alpha a) (b / 2)
 
 -- The product.
 infixl 70 ◌·◌
 unfoldable pub ◌·◌ : ℕ → ℕ → ℕ
-a · b = shiftAndAdd 8 (a % 256) b
+a · b = shift_and_add 8 (a % 256) b
 
 -- The powers of an element.
 unfoldable pub pow : ℕ → ℕ → ℕ
@@ -33,8 +33,8 @@ pow a zero = 1
 pow a (suc n) = a · pow a n
 
 -- The inverse of an element is its 254th power; that of zero is zero.
-unfoldable pub inverseOf : ℕ → ℕ
-inverseOf a = pow a 254
+unfoldable pub inverse_of : ℕ → ℕ
+inverse_of a = pow a 254
 
 -- The root of F.
 abbrev pub alpha : ℕ

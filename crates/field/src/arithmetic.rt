@@ -1,9 +1,9 @@
 // Products and inverses of field elements, as conventional octets.
 ghost use Rattle.std.specs.Prelude.{◌≡◌};
-ghost use Rattle.field.specs.Field.{◌·◌, timesAlpha, inverseOf};
+ghost use Rattle.field.specs.Field.{◌·◌, times_alpha, inverse_of};
 
 fn times_alpha(a: u8) -> u8
-    ensures { result ≡ timesAlpha a }
+    ensures { result ≡ times_alpha a }
 {
     let low = (a & 127) << 1;
     low ^ (a >> 7) * 0x87
@@ -27,7 +27,7 @@ pub fn mul(a: u8, b: u8) -> u8
 
 // The 254th power: six times a square and one factor more give the 127th, whose square it is.
 pub fn inverse(a: u8) -> u8
-    ensures { result ≡ inverseOf a }
+    ensures { result ≡ inverse_of a }
 {
     let mut power = a;
     for _ in 0usize..6 {

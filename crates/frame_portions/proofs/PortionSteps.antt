@@ -8,22 +8,22 @@ use native.Mathlib.Nat.{zero-add, mul-le-mul, mul-le-mul_right}
 use native.Mathlib.Omega.{arith}
 use lib.ListN.{length, take, get_or}
 use lib.Seq.{take_all}
-use Rattle.octets.specs.Copies.{copiedOver}
-use Rattle.octets.proofs.Laws.{copied-length, copied-front}
+use Rattle.octets.specs.Copies.{copied_over}
+use Rattle.octets.proofs.Laws.{copied_length, copied_front}
 use Rattle.refusals.specs.Order.{FirstOf}
-use Rattle.refusals.specs.Sizes.{frameLength, checksLength}
-use Rattle.refusals.specs.Calls.{portionOrder, closeOrder}
-use Rattle.refusals.specs.Numbers.{verdictNumber}
+use Rattle.refusals.specs.Sizes.{frame_length, checks_length}
+use Rattle.refusals.specs.Calls.{portion_order, close_order}
+use Rattle.refusals.specs.Numbers.{verdict_number}
 use Rattle.refusals.specs.declared.Parameter.{Parameter}
 use Rattle.refusals.specs.declared.Verdict.{Verdict}
 use Rattle.refusals.specs.declared.Verdict.TheVariants.{Accepted, Refused}
-use Rattle.refusals.proofs.Orders.{Clear, accepted-clear, not-different}
-use Rattle.refusals.proofs.Legal.{LegalWords, legal-words}
-use Rattle.refusals.proofs.Verdicts.{parameter-nonzero, same-verdict}
+use Rattle.refusals.proofs.Orders.{Clear, accepted_clear, not_different}
+use Rattle.refusals.proofs.Legal.{LegalWords, legal_words}
+use Rattle.refusals.proofs.Verdicts.{parameter_nonzero, same_verdict}
 use Rattle.frame_portions.specs.declared.Row.{Row}
 use Rattle.frame_portions.specs.declared.Progress.{Progress}
-use Rattle.encoding.specs.Rows.{in_row, rowsEntered, RowsOn, MayEnter, ChecksPut, ChecksFit}
-use Rattle.frame_portions.specs.Portions.{octetRows, held_rows, taken, closing, PortionOutcome, Checks, CloseOutcome}
+use Rattle.encoding.specs.Rows.{in_row, rows_entered, RowsOn, MayEnter, ChecksPut, ChecksFit}
+use Rattle.frame_portions.specs.Portions.{octet_rows, held_rows, taken, closing, PortionOutcome, Checks, CloseOutcome}
 use Rattle.encoding.proofs.Interleaving.{place-below}
 
 not_set : (flag : Bool) → (flag ≡ true → ⊥) → flag ≡ false
@@ -37,116 +37,116 @@ pub record PortionLegal (e i q portion written place : ℕ) (closed : Bool) : Ty
   pub small : portion ≤ 300
   pub output : written ≡ portion
   pub unclosed : closed ≡ false
-  pub within : place + portion ≤ frameLength e i q
+  pub within : place + portion ≤ frame_length e i q
 
-pub portion-legal : (e i q portion written place : ℕ) (closed : Bool) → FirstOf (portionOrder e i q portion written place closed) 0
+pub portion_legal : (e i q portion written place : ℕ) (closed : Bool) → FirstOf (portion_order e i q portion written place closed) 0
     → PortionLegal e i q portion written place closed
-portion-legal e i q portion written place closed first =
+portion_legal e i q portion written place closed first =
     record {
-      words = legal-words e i q (clear.0, (clear.1.0, (clear.1.1.0, tt)));
+      words = legal_words e i q (clear.0, (clear.1.0, (clear.1.1.0, tt)));
       small = omega (arith, clear.1.1.1.0);
-      output = not-different written portion clear.1.1.1.1.0;
+      output = not_different written portion clear.1.1.1.1.0;
       unclosed = not_set closed (λ t. clear.1.1.1.1.1.0 (inl t));
-      within = let fits : frameLength e i q < place + portion → ⊥ = λ h. clear.1.1.1.1.1.0 (inr h) in omega arith;
+      within = let fits : frame_length e i q < place + portion → ⊥ = λ h. clear.1.1.1.1.1.0 (inr h) in omega arith;
     }
   where
-    clear : Clear (portionOrder e i q portion written place closed)
+    clear : Clear (portion_order e i q portion written place closed)
     clear =
-        accepted-clear (portionOrder e i q portion written place closed)
+        accepted_clear (portion_order e i q portion written place closed)
         (omega arith, (omega arith, (omega arith, (omega arith, (omega arith, (omega arith, tt)))))) first
 
 -- a place within a frame is small
-pub place-small : (e i q portion written place : ℕ) (closed : Bool) → PortionLegal e i q portion written place closed → place + portion ≤ 2040
-place-small e i q portion written place closed legal = omega (arith, legal.within, mul-le-mul few legal.words.deep)
+pub place_small : (e i q portion written place : ℕ) (closed : Bool) → PortionLegal e i q portion written place closed → place + portion ≤ 2040
+place_small e i q portion written place closed legal = omega (arith, legal.within, mul-le-mul few legal.words.deep)
   where
     few : 255 - 2 * e - q ≤ 255
     few = omega arith
 
 -- its symbols may enter, the first at any word
-pub portion-enters : (e i q portion written place : ℕ) (closed : Bool) (word : ℕ) → PortionLegal e i q portion written place closed → word < i → MayEnter e i word
-portion-enters e i q portion written place closed word legal h = record { strength = legal.words.strength; within = h; deep = legal.words.deep }
+pub portion_enters : (e i q portion written place : ℕ) (closed : Bool) (word : ℕ) → PortionLegal e i q portion written place closed → word < i → MayEnter e i word
+portion_enters e i q portion written place closed word legal h = record { strength = legal.words.strength; within = h; deep = legal.words.deep }
 
 -- the parts of the state that a portion leaves
 pub taken_is : (e i : ℕ) (state : Progress) (portion : List ℕ) (place word : ℕ) (rows after : List (List ℕ)) (held : List Row) → place ≡ state.place + length portion
-    → state.place % i ≡ word → rows ≡ octetRows state.rows → RowsOn e i word rows portion after → held ≡ held_rows after
+    → state.place % i ≡ word → rows ≡ octet_rows state.rows → RowsOn e i word rows portion after → held ≡ held_rows after
     → record { place = place; closed = state.closed; rows = held } ≡ taken e i state portion
 taken_is e i state portion place word rows after held moved at unpacked entered packed =
     ap₂ {C = Progress} (λ (n : ℕ) (list : List Row). record { place = n; closed = state.closed; rows = list }) moved
     (packed ∙ ap held_rows (entered state.place at)
-    ∙ ap (λ (list : List (List ℕ)). held_rows (rowsEntered (in_row e) i state.place list portion)) unpacked)
+    ∙ ap (λ (list : List (List ℕ)). held_rows (rows_entered (in_row e) i state.place list portion)) unpacked)
 
 module _ (e i q : ℕ) (state : Progress) (portion before : List ℕ) where
-  pub portion-refuses : (v : Verdict) (p : Parameter) → v ≡ Refused p
-      → FirstOf (portionOrder e i q (length portion) (length before) state.place state.closed) (verdictNumber v)
+  pub portion_refuses : (v : Verdict) (p : Parameter) → v ≡ Refused p
+      → FirstOf (portion_order e i q (length portion) (length before) state.place state.closed) (verdict_number v)
       → PortionOutcome e i q state portion before (Refused p) state before
-  portion-refuses v p refuses first =
+  portion_refuses v p refuses first =
       record {
-        number = same-verdict (portionOrder e i q (length portion) (length before) state.place state.closed) v (Refused p) refuses first;
+        number = same_verdict (portion_order e i q (length portion) (length before) state.place state.closed) v (Refused p) refuses first;
         refused = λ n. (refl, refl);
-        accepted = λ n. absurd (parameter-nonzero p n);
+        accepted = λ n. absurd (parameter_nonzero p n);
       }
 
-  pub portion-accepts : (next : Progress) (after : List ℕ)
-      → FirstOf (portionOrder e i q (length portion) (length before) state.place state.closed) 0 → next ≡ taken e i state portion
-      → after ≡ copiedOver portion before → PortionOutcome e i q state portion before Accepted next after
-  portion-accepts next after first next-is copied =
+  pub portion_accepts : (next : Progress) (after : List ℕ)
+      → FirstOf (portion_order e i q (length portion) (length before) state.place state.closed) 0 → next ≡ taken e i state portion
+      → after ≡ copied_over portion before → PortionOutcome e i q state portion before Accepted next after
+  portion_accepts next after first next-is copied =
       record { number = first; refused = λ n. absurd (n refl); accepted = λ n. (next-is, written_is) }
     where
       fits : length before ≡ length portion
-      fits = (portion-legal e i q (length portion) (length before) state.place state.closed first).output
+      fits = (portion_legal e i q (length portion) (length before) state.place state.closed first).output
 
       written_is : after ≡ portion
       written_is =
-          sym (take_all (length portion) after (omega (arith, ap length copied, copied-length portion before, fits)))
-          ∙ ap (take (length portion)) copied ∙ copied-front portion before (omega (arith, fits))
+          sym (take_all (length portion) after (omega (arith, ap length copied, copied_length portion before, fits)))
+          ∙ ap (take (length portion)) copied ∙ copied_front portion before (omega (arith, fits))
 
 -- ---- a close
 
 pub record CloseLegal (e i q checks place : ℕ) (closed : Bool) : Type 0 where
   pub words : LegalWords e i q
-  pub output : checks ≡ checksLength e i
+  pub output : checks ≡ checks_length e i
   pub unclosed : closed ≡ false
-  pub whole : place ≡ frameLength e i q
+  pub whole : place ≡ frame_length e i q
 
-pub close-legal : (e i q checks place : ℕ) (closed : Bool) → FirstOf (closeOrder e i q checks place closed) 0 → CloseLegal e i q checks place closed
-close-legal e i q checks place closed first =
+pub close_legal : (e i q checks place : ℕ) (closed : Bool) → FirstOf (close_order e i q checks place closed) 0 → CloseLegal e i q checks place closed
+close_legal e i q checks place closed first =
     record {
-      words = legal-words e i q (clear.0, (clear.1.0, (clear.1.1.0, tt)));
-      output = not-different checks (checksLength e i) clear.1.1.1.0;
+      words = legal_words e i q (clear.0, (clear.1.0, (clear.1.1.0, tt)));
+      output = not_different checks (checks_length e i) clear.1.1.1.0;
       unclosed = not_set closed (λ t. clear.1.1.1.1.0 (inl t));
-      whole = not-different place (frameLength e i q) (λ h. clear.1.1.1.1.0 (inr h));
+      whole = not_different place (frame_length e i q) (λ h. clear.1.1.1.1.0 (inr h));
     }
   where
-    clear : Clear (closeOrder e i q checks place closed)
-    clear = accepted-clear (closeOrder e i q checks place closed) (omega arith, (omega arith, (omega arith, (omega arith, (omega arith, tt))))) first
+    clear : Clear (close_order e i q checks place closed)
+    clear = accepted_clear (close_order e i q checks place closed) (omega arith, (omega arith, (omega arith, (omega arith, (omega arith, tt))))) first
 
-pub close-fits : (e i q checks place : ℕ) (closed : Bool) → CloseLegal e i q checks place closed → ChecksFit i 0 checks
-close-fits e i q checks place closed legal =
+pub close_fits : (e i q checks place : ℕ) (closed : Bool) → CloseLegal e i q checks place closed → ChecksFit i 0 checks
+close_fits e i q checks place closed legal =
     record { some = omega (arith, legal.words.some); deep = legal.words.deep; within = omega arith; room = omega (arith, legal.output, mul-le-mul_right i few) }
   where
     few : 2 * e ≤ 32
     few = omega (arith, legal.words.strong)
 
 module _ (e i q : ℕ) (state : Progress) (before : List ℕ) where
-  pub close-refuses : (v : Verdict) (p : Parameter) → v ≡ Refused p → FirstOf (closeOrder e i q (length before) state.place state.closed) (verdictNumber v)
+  pub close_refuses : (v : Verdict) (p : Parameter) → v ≡ Refused p → FirstOf (close_order e i q (length before) state.place state.closed) (verdict_number v)
       → CloseOutcome e i q state before (Refused p) state before
-  close-refuses v p refuses first =
+  close_refuses v p refuses first =
       record {
-        number = same-verdict (closeOrder e i q (length before) state.place state.closed) v (Refused p) refuses first;
+        number = same_verdict (close_order e i q (length before) state.place state.closed) v (Refused p) refuses first;
         refused = λ n. (refl, refl);
-        accepted = λ n. absurd (parameter-nonzero p n);
+        accepted = λ n. absurd (parameter_nonzero p n);
       }
 
-  pub close-accepts : (rows : List (List ℕ)) (after : List ℕ) → FirstOf (closeOrder e i q (length before) state.place state.closed) 0
-      → rows ≡ octetRows state.rows → ChecksPut rows i 0 before after → CloseOutcome e i q state before Accepted (closing state) after
-  close-accepts rows after first unpacked put =
-      record { number = first; refused = λ n. absurd (n refl); accepted = λ n. (refl, checks-are) }
+  pub close_accepts : (rows : List (List ℕ)) (after : List ℕ) → FirstOf (close_order e i q (length before) state.place state.closed) 0
+      → rows ≡ octet_rows state.rows → ChecksPut rows i 0 before after → CloseOutcome e i q state before Accepted (closing state) after
+  close_accepts rows after first unpacked put =
+      record { number = first; refused = λ n. absurd (n refl); accepted = λ n. (refl, checks_are) }
     where
-      fits : length before ≡ checksLength e i
-      fits = (close-legal e i q (length before) state.place state.closed first).output
+      fits : length before ≡ checks_length e i
+      fits = (close_legal e i q (length before) state.place state.closed first).output
 
-      checks-are : Checks e i (octetRows state.rows) after
-      checks-are =
+      checks_are : Checks e i (octet_rows state.rows) after
+      checks_are =
           record {
             size = put.size ∙ fits;
             octet = λ j w l h. ap (λ (n : ℕ). get_or after n 0) (sym (zero-add (j * i + w)))

@@ -1,24 +1,24 @@
 -- A frame in portions: the state between them, and what a portion and a close promise (document 02, (ii)).
 use Rattle.std.specs.Prelude.{◌≡◌, true, false, ◌≢◌, List, [], ◌∷◌, ◌++◌, map, ℕ, ◌+◌, ◌*◌, ◌<◌, length, get_or}
 use Rattle.refusals.specs.Order.{FirstOf}
-use Rattle.refusals.specs.Sizes.{checksLength}
-use Rattle.refusals.specs.Numbers.{verdictNumber}
-use Rattle.refusals.specs.Calls.{portionOrder, closeOrder}
+use Rattle.refusals.specs.Sizes.{checks_length}
+use Rattle.refusals.specs.Numbers.{verdict_number}
+use Rattle.refusals.specs.Calls.{portion_order, close_order}
 use Rattle.refusals.specs.declared.Verdict.{Verdict}
 use Rattle.refusals.specs.declared.Verdict.TheVariants.{Accepted}
 use Rattle.frame_portions.specs.declared.Row.{Row}
 use Rattle.frame_portions.specs.declared.Progress.{Progress}
-use Rattle.encoding.specs.Rows.{in_row, rowsEntered, no_rows}
+use Rattle.encoding.specs.Rows.{in_row, rows_entered, no_rows}
 
 -- The octets of a row and the row of octets, so for all rows of a state.
-abbrev pub octetsOf : Row → List ℕ
-octetsOf row = row.octets
+abbrev pub octets_of : Row → List ℕ
+octets_of row = row.octets
 
 abbrev pub row_of : List ℕ → Row
 row_of octets = record { octets = octets }
 
-abbrev pub octetRows : List Row → List (List ℕ)
-octetRows rows = map octetsOf rows
+abbrev pub octet_rows : List Row → List (List ℕ)
+octet_rows rows = map octets_of rows
 
 abbrev pub held_rows : List (List ℕ) → List Row
 held_rows lists = map row_of lists
@@ -33,7 +33,7 @@ taken e i state symbols =
     record {
       place = state.place + length symbols;
       closed = state.closed;
-      rows = held_rows (rowsEntered (in_row e) i state.place (octetRows state.rows) symbols);
+      rows = held_rows (rows_entered (in_row e) i state.place (octet_rows state.rows) symbols);
     }
 
 abbrev pub closing : Progress → Progress
@@ -41,20 +41,20 @@ closing state = record { place = state.place; closed = true; rows = state.rows }
 
 -- A portion is checked in its order. Accepted, its symbols are written and enter the state; after a refusal state and output are as they were.
 pub record PortionOutcome (e i q : ℕ) (state : Progress) (portion before : List ℕ) (answer : Verdict) (next : Progress) (after : List ℕ) : Type 0 where
-  pub number : FirstOf (portionOrder e i q (length portion) (length before) state.place state.closed) (verdictNumber answer)
-  pub refused : verdictNumber answer ≢ 0 → (next ≡ state) × (after ≡ before)
-  pub accepted : verdictNumber answer ≡ 0 → (next ≡ taken e i state portion) × (after ≡ portion)
+  pub number : FirstOf (portion_order e i q (length portion) (length before) state.place state.closed) (verdict_number answer)
+  pub refused : verdict_number answer ≢ 0 → (next ≡ state) × (after ≡ before)
+  pub accepted : verdict_number answer ≡ 0 → (next ≡ taken e i state portion) × (after ≡ portion)
 
 -- The first 2e octets of each row, interleaved.
 pub record Checks (e i : ℕ) (rows : List (List ℕ)) (checks : List ℕ) : Type 0 where
-  pub size : length checks ≡ checksLength e i
+  pub size : length checks ≡ checks_length e i
   pub octet : (j w : ℕ) → j < e + e → w < i → get_or checks (j * i + w) 0 ≡ get_or (get_or rows w []) j 0
 
 -- A close is checked in its order. Accepted, the checks are written; after a refusal state and output are as they were.
 pub record CloseOutcome (e i q : ℕ) (state : Progress) (before : List ℕ) (answer : Verdict) (next : Progress) (after : List ℕ) : Type 0 where
-  pub number : FirstOf (closeOrder e i q (length before) state.place state.closed) (verdictNumber answer)
-  pub refused : verdictNumber answer ≢ 0 → (next ≡ state) × (after ≡ before)
-  pub accepted : verdictNumber answer ≡ 0 → (next ≡ closing state) × Checks e i (octetRows state.rows) after
+  pub number : FirstOf (close_order e i q (length before) state.place state.closed) (verdict_number answer)
+  pub refused : verdict_number answer ≢ 0 → (next ≡ state) × (after ≡ before)
+  pub accepted : verdict_number answer ≡ 0 → (next ≡ closing state) × Checks e i (octet_rows state.rows) after
 
 -- Portions given one after another from a state, all accepted: what they wrote, joined, and the state that they leave.
 pub data Given (e i q : ℕ) : Progress → List (List ℕ) → List ℕ → Progress → Type 0 where

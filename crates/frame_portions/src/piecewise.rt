@@ -1,6 +1,6 @@
 // Encoding of a frame that comes in portions: the rows of checks go from call to call in a state.
 ghost use Rattle.std.specs.Prelude.{◌≡◌, ◌+◌, ◌%◌, ◌≤◌, ◌<◌};
-ghost use Rattle.frame_portions.specs.Portions.{octetRows, held_rows, none_taken, PortionOutcome, CloseOutcome};
+ghost use Rattle.frame_portions.specs.Portions.{octet_rows, held_rows, none_taken, PortionOutcome, CloseOutcome};
 
 use crate::{Portioned, Progress, Row};
 use encoding::{rows_entered, write_checks};
@@ -20,7 +20,7 @@ pub fn start() -> Progress
 // A struct cannot hold an array of arrays, nor can an array of structs be lent: so a state has rows, and what is lent has their octets.
 // Written out, both ways, so that the compiler sees one copy of 256 octets.
 pub fn octet_rows(rows: [Row; 8]) -> [[u8; 32]; 8]
-    ensures { result ≡ octetRows rows }
+    ensures { result ≡ octet_rows rows }
 {
     let row_0 = rows[0];
     let octets_0 = row_0.octets;

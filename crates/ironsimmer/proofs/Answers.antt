@@ -6,7 +6,7 @@ use mathlib.Core.List.{List, [], ◌∷◌, ◌++◌}
 use Prim.Native.Nat.{ℕ}
 use native.Mathlib.Omega.{arith}
 use lib.ListN.{length, get_or}
-use Rattle.refusals.specs.Numbers.{parameterNumber, verdictNumber, markerNumber, markerValue, wordNumber, wordValue}
+use Rattle.refusals.specs.Numbers.{parameter_number, verdict_number, marker_number, marker_value, word_number, word_value}
 use Rattle.refusals.specs.declared.Parameter.{Parameter}
 use Rattle.refusals.specs.declared.Verdict.{Verdict}
 use Rattle.refusals.specs.declared.Verdict.TheVariants as verdict
@@ -14,10 +14,10 @@ use Rattle.refusals.specs.declared.MarkerRefusal.{MarkerRefusal}
 use Rattle.refusals.specs.declared.MarkerRefusal.TheVariants as marker
 use Rattle.refusals.specs.declared.WordRefusal.{WordRefusal}
 use Rattle.refusals.specs.declared.WordRefusal.TheVariants as word
-use Rattle.refusals.proofs.Verdicts.{parameter-nonzero}
+use Rattle.refusals.proofs.Verdicts.{parameter_nonzero}
 use Rattle.reed_solomon.specs.declared.Decoded.{Decoded}
 use Rattle.reed_solomon.specs.declared.Decoded.TheVariants as decoded
-use Rattle.reed_solomon.specs.Outcome.{DecodeOutcome, decodedNumber, decodedValue}
+use Rattle.reed_solomon.specs.Outcome.{DecodeOutcome, decoded_number, decoded_value}
 use Rattle.reed_solomon.specs.Salvaging.{SalvageOutcome}
 use Rattle.frame_portions.proofs.Eight.{eight}
 use Rattle.marker.specs.declared.Form.{Form}
@@ -25,16 +25,16 @@ use Rattle.marker.specs.declared.Tested.{Tested}
 use Rattle.marker.specs.declared.Tested.TheVariants as tested
 use Rattle.marker.specs.declared.Searched.{Searched}
 use Rattle.marker.specs.declared.Searched.TheVariants as searched
-use Rattle.marker.specs.Outcome.{searchedNumber, TestOutcome}
+use Rattle.marker.specs.Outcome.{searched_number, TestOutcome}
 use Rattle.viterbi.specs.declared.Sought.{Sought}
 use Rattle.viterbi.specs.declared.Sought.TheVariants as sought
-use Rattle.viterbi.specs.Outcome.{soughtNumber, LikeliestOutcome}
+use Rattle.viterbi.specs.Outcome.{sought_number, LikeliestOutcome}
 use Rattle.chain.specs.declared.Stage.{Stage}
 use Rattle.chain.specs.declared.Stage.TheVariants as stage
 use Rattle.chain.specs.declared.Received.{Received}
 use Rattle.chain.specs.declared.Received.TheVariants as received
-use Rattle.chain.specs.Outcome.{ReceiveOutcome, receivedNumber, receivedValue}
-use Rattle.ironsimmer.specs.Exported.{code, truth, formNumber, decodeListed, receiveListed, salvageListed, testReport, searchReport, soughtReport, Lent, DecodingCall, DecodeCall, SalvageCall, MarkerCall, LikeliestCall, Reported}
+use Rattle.chain.specs.Outcome.{ReceiveOutcome, received_number, received_value}
+use Rattle.ironsimmer.specs.Exported.{code, truth, form_number, decode_listed, receive_listed, salvage_listed, test_report, search_report, sought_report, Lent, DecodingCall, DecodeCall, SalvageCall, MarkerCall, LikeliestCall, Reported}
 
 -- ---- one number for an answer
 
@@ -43,25 +43,25 @@ pub known-answer {ℓ} : {A : Type ℓ} (f : A → ℕ) {x y : A} {n : ℕ} → 
 known-answer f e p = p ∙ ap f (sym e)
 
 abbrev pub markerCode : MarkerRefusal → ℕ
-markerCode r = code (markerNumber r) (markerValue r)
+markerCode r = code (marker_number r) (marker_value r)
 
 abbrev pub wordCode : WordRefusal → ℕ
-wordCode r = code (wordNumber r) (wordValue r)
+wordCode r = code (word_number r) (word_value r)
 
 abbrev pub stageCode : Stage → ℕ
-stageCode s = code (receivedNumber (received.Refused s)) (receivedValue (received.Refused s))
+stageCode s = code (received_number (received.Refused s)) (received_value (received.Refused s))
 
 -- Every refusal has a number.
-pub marker-nonzero : (r : MarkerRefusal) → markerNumber r ≢ 0
-marker-nonzero (marker.Parameters p) = parameter-nonzero p
+pub marker-nonzero : (r : MarkerRefusal) → marker_number r ≢ 0
+marker-nonzero (marker.Parameters p) = parameter_nonzero p
 marker-nonzero (marker.WrongBits wrong) = λ e. absurd (omega arith)
 
-pub word-nonzero : (r : WordRefusal) → wordNumber r ≢ 0
-word-nonzero (word.Parameters p) = parameter-nonzero p
+pub word-nonzero : (r : WordRefusal) → word_number r ≢ 0
+word-nonzero (word.Parameters p) = parameter_nonzero p
 word-nonzero (word.NoCodeword w) = λ e. absurd (omega arith)
 
-pub stage-nonzero : (s : Stage) → receivedNumber (received.Refused s) ≢ 0
-stage-nonzero (stage.Parameters p) = parameter-nonzero p
+pub stage-nonzero : (s : Stage) → received_number (received.Refused s) ≢ 0
+stage-nonzero (stage.Parameters p) = parameter_nonzero p
 stage-nonzero (stage.Marker r) = marker-nonzero r
 stage-nonzero (stage.Word r) = word-nonzero r
 
@@ -77,7 +77,7 @@ module _ {A : Type 0} where
 -- ---- the calls
 
 module _ (tolerance : ℕ) (octets before : List ℕ) {answer : Tested} where
-  pub marker-accepted : (form : Form) (wrong number : ℕ) → answer ≡ tested.Accepted form wrong → TestOutcome tolerance octets answer → number ≡ formNumber form
+  pub marker-accepted : (form : Form) (wrong number : ℕ) → answer ≡ tested.Accepted form wrong → TestOutcome tolerance octets answer → number ≡ form_number form
       → MarkerCall tolerance octets before 0 (number ∷ wrong ∷ [])
   marker-accepted form wrong number e o is =
       record {
@@ -85,7 +85,7 @@ module _ (tolerance : ℕ) (octets before : List ℕ) {answer : Tested} where
         outcome = subst (TestOutcome tolerance octets) e o;
         coded = λ n. absurd (n refl);
         accepted = λ z. refl;
-        lent = lent-accepted 0 (testReport (tested.Accepted form wrong)) before (number ∷ wrong ∷ []) refl (ap {B = List ℕ} (λ (n : ℕ). n ∷ wrong ∷ []) is);
+        lent = lent-accepted 0 (test_report (tested.Accepted form wrong)) before (number ∷ wrong ∷ []) refl (ap {B = List ℕ} (λ (n : ℕ). n ∷ wrong ∷ []) is);
       }
 
   pub marker-refused : (r : MarkerRefusal) (n : ℕ) → answer ≡ tested.Refused r → TestOutcome tolerance octets answer → n ≡ markerCode r
@@ -96,7 +96,7 @@ module _ (tolerance : ℕ) (octets before : List ℕ) {answer : Tested} where
         outcome = subst (TestOutcome tolerance octets) e o;
         coded = λ z. c;
         accepted = λ z. absurd (marker-nonzero r z);
-        lent = lent-refused (markerNumber r) [] before (marker-nonzero r);
+        lent = lent-refused (marker_number r) [] before (marker-nonzero r);
       }
 
 module _ (register : ℕ) (symbols before reported after : List ℕ) {answer : Sought} (o : LikeliestOutcome register symbols before answer after) where
@@ -106,18 +106,18 @@ module _ (register : ℕ) (symbols before reported after : List ℕ) {answer : S
       record {
         answered = answer;
         outcome = o;
-        coded = ap soughtNumber (sym e);
-        lent = lent-accepted (soughtNumber answer) (soughtReport answer) reported (places ∷ reached ∷ []) (ap soughtNumber e) (ap soughtReport (sym e));
+        coded = ap sought_number (sym e);
+        lent = lent-accepted (sought_number answer) (sought_report answer) reported (places ∷ reached ∷ []) (ap sought_number e) (ap sought_report (sym e));
       }
 
-  pub likeliest-refused : (p : Parameter) (n : ℕ) → answer ≡ sought.Refused p → n ≡ parameterNumber p
+  pub likeliest-refused : (p : Parameter) (n : ℕ) → answer ≡ sought.Refused p → n ≡ parameter_number p
       → LikeliestCall register symbols before reported n after reported
   likeliest-refused p n e c =
       record {
         answered = answer;
         outcome = o;
-        coded = known-answer soughtNumber e c;
-        lent = lent-refused (soughtNumber answer) (soughtReport answer) reported (λ z. parameter-nonzero p (ap soughtNumber (sym e) ∙ z));
+        coded = known-answer sought_number e c;
+        lent = lent-refused (sought_number answer) (sought_report answer) reported (λ z. parameter_nonzero p (ap sought_number (sym e) ∙ z));
       }
 
 -- Decode and receive, over what is permitted of their answers.
@@ -152,13 +152,13 @@ module _ (e i q s : ℕ) (block before reported counts : List ℕ) (total : ℕ)
     pub decode-delivered : (report : List ℕ) → answer ≡ decoded.Delivered → DecodeOutcome e i q s block before answer counts total after → report ≡ counts ++ (total ∷ [])
         → DecodeCall e i q s block before reported 0 after report
     decode-delivered report known o r =
-        decoding-delivered decodedNumber decodedValue decodeListed DecodePermits reported (counts, total) after answer o report (ap decodedNumber known) (ap decodedValue known) r
+        decoding-delivered decoded_number decoded_value decode_listed DecodePermits reported (counts, total) after answer o report (ap decoded_number known) (ap decoded_value known) r
 
     pub decode-refused : (r : WordRefusal) (n : ℕ) → answer ≡ decoded.Refused r → DecodeOutcome e i q s block before answer counts total after → n ≡ wordCode r
         → DecodeCall e i q s block before reported n after reported
     decode-refused r n known o c =
-        decoding-refused decodedNumber decodedValue decodeListed DecodePermits reported (counts, total) after answer o n
-        (λ z. word-nonzero r (ap decodedNumber (sym known) ∙ z)) (known-answer (λ (a : Decoded). code (decodedNumber a) (decodedValue a)) known c)
+        decoding-refused decoded_number decoded_value decode_listed DecodePermits reported (counts, total) after answer o n
+        (λ z. word-nonzero r (ap decoded_number (sym known) ∙ z)) (known-answer (λ (a : Decoded). code (decoded_number a) (decoded_value a)) known c)
 
 module _ (e i q s t : ℕ) (flag : Bool) (marked before reported counts : List ℕ) (total : ℕ) (turned : Bool) (after : List ℕ) where
   abbrev ReceivePermits : Received → List ℕ × ℕ × Bool → List ℕ → Type 0
@@ -166,34 +166,34 @@ module _ (e i q s t : ℕ) (flag : Bool) (marked before reported counts : List �
 
   module _ {answer : Received} where
     pub receive-delivered : (report : List ℕ) (number : ℕ) → answer ≡ received.Delivered → ReceiveOutcome e i q s t flag marked before answer counts total turned after
-        → number ≡ truth turned → report ≡ counts ++ (total ∷ number ∷ []) → DecodingCall receivedNumber receivedValue receiveListed ReceivePermits reported 0 after report
+        → number ≡ truth turned → report ≡ counts ++ (total ∷ number ∷ []) → DecodingCall received_number received_value receive_listed ReceivePermits reported 0 after report
     receive-delivered report number known o is r =
-        decoding-delivered receivedNumber receivedValue receiveListed ReceivePermits reported (counts, total, turned) after answer o report
-        (ap receivedNumber known) (ap receivedValue known) (r ∙ ap (λ (n : ℕ). counts ++ (total ∷ n ∷ [])) is)
+        decoding-delivered received_number received_value receive_listed ReceivePermits reported (counts, total, turned) after answer o report
+        (ap received_number known) (ap received_value known) (r ∙ ap (λ (n : ℕ). counts ++ (total ∷ n ∷ [])) is)
 
     pub receive-refused : (stage : Stage) (n : ℕ) → answer ≡ received.Refused stage → ReceiveOutcome e i q s t flag marked before answer counts total turned after
-        → n ≡ stageCode stage → DecodingCall receivedNumber receivedValue receiveListed ReceivePermits reported n after reported
+        → n ≡ stageCode stage → DecodingCall received_number received_value receive_listed ReceivePermits reported n after reported
     receive-refused stage n known o c =
-        decoding-refused receivedNumber receivedValue receiveListed ReceivePermits reported (counts, total, turned) after answer o n
-        (λ z. stage-nonzero stage (ap receivedNumber (sym known) ∙ z)) (known-answer (λ (a : Received). code (receivedNumber a) (receivedValue a)) known c)
+        decoding-refused received_number received_value receive_listed ReceivePermits reported (counts, total, turned) after answer o n
+        (λ z. stage-nonzero stage (ap received_number (sym known) ∙ z)) (known-answer (λ (a : Received). code (received_number a) (received_value a)) known c)
 
 module _ (e i q s : ℕ) (block before listed reported marks counts : List ℕ) (entries : ℕ) (frame list : List ℕ) {answer : Verdict}
     (o : SalvageOutcome e i q s block before listed answer marks counts entries frame list) where
-  salvage-told : (n : ℕ) (report : List ℕ) → n ≡ verdictNumber answer → Lent (verdictNumber answer) (salvageListed marks counts entries) reported report
+  salvage-told : (n : ℕ) (report : List ℕ) → n ≡ verdict_number answer → Lent (verdict_number answer) (salvage_listed marks counts entries) reported report
       → SalvageCall e i q s block before listed reported n frame list report
   salvage-told n report coded lent =
       record { verdict = answer; marks = marks; counts = counts; entries = entries; outcome = o; coded = coded; lent = lent }
 
-  pub salvage-accepted : (report : List ℕ) → answer ≡ verdict.Accepted → report ≡ salvageListed marks counts entries
+  pub salvage-accepted : (report : List ℕ) → answer ≡ verdict.Accepted → report ≡ salvage_listed marks counts entries
       → SalvageCall e i q s block before listed reported 0 frame list report
   salvage-accepted report known is =
-      salvage-told 0 report (ap verdictNumber (sym known)) (lent-accepted (verdictNumber answer) (salvageListed marks counts entries) reported report (ap verdictNumber known) is)
+      salvage-told 0 report (ap verdict_number (sym known)) (lent-accepted (verdict_number answer) (salvage_listed marks counts entries) reported report (ap verdict_number known) is)
 
-  pub salvage-refused : (p : Parameter) (n : ℕ) → answer ≡ verdict.Refused p → n ≡ parameterNumber p
+  pub salvage-refused : (p : Parameter) (n : ℕ) → answer ≡ verdict.Refused p → n ≡ parameter_number p
       → SalvageCall e i q s block before listed reported n frame list reported
   salvage-refused p n known c =
-      salvage-told n reported (known-answer verdictNumber known c)
-      (lent-refused (verdictNumber answer) (salvageListed marks counts entries) reported (λ z. parameter-nonzero p (ap verdictNumber (sym known) ∙ z)))
+      salvage-told n reported (known-answer verdict_number known c)
+      (lent-refused (verdict_number answer) (salvage_listed marks counts entries) reported (λ z. parameter_nonzero p (ap verdict_number (sym known) ∙ z)))
 
 -- ---- the search's report
 
@@ -202,17 +202,17 @@ module _ (before : List ℕ) {answer : Searched} where
   by_kind : (kind : Searched) (n : ℕ) (after : List ℕ) → answer ≡ kind → Reported kind before n after → Reported answer before n after
   by_kind kind n after e r = subst (λ (a : Searched). Reported a before n after) (sym e) r
 
-  pub search-accepted : (kind : Searched) (report : List ℕ) → searchedNumber kind ≡ 0 → answer ≡ kind → report ≡ searchReport kind → Reported answer before 0 report
+  pub search-accepted : (kind : Searched) (report : List ℕ) → searched_number kind ≡ 0 → answer ≡ kind → report ≡ search_report kind → Reported answer before 0 report
   search-accepted kind report z e is =
-      by_kind kind 0 report e (record { coded = sym z; lent = lent-accepted (searchedNumber kind) (searchReport kind) before report z is })
+      by_kind kind 0 report e (record { coded = sym z; lent = lent-accepted (searched_number kind) (search_report kind) before report z is })
 
-  pub search-refused : (p : Parameter) (n : ℕ) → answer ≡ searched.Refused p → n ≡ parameterNumber p → Reported answer before n before
+  pub search-refused : (p : Parameter) (n : ℕ) → answer ≡ searched.Refused p → n ≡ parameter_number p → Reported answer before n before
   search-refused p n e c =
-      by_kind (searched.Refused p) n before e (record { coded = c; lent = lent-refused (parameterNumber p) [] before (parameter-nonzero p) })
+      by_kind (searched.Refused p) n before e (record { coded = c; lent = lent-refused (parameter_number p) [] before (parameter_nonzero p) })
 
 -- What is found is reported with its form.
-pub found-report : (place wrong looked number : ℕ) (form : Form) → number ≡ formNumber form
-    → 1 ∷ place ∷ wrong ∷ looked ∷ number ∷ [] ≡ searchReport (searched.Found place form wrong looked)
+pub found-report : (place wrong looked number : ℕ) (form : Form) → number ≡ form_number form
+    → 1 ∷ place ∷ wrong ∷ looked ∷ number ∷ [] ≡ search_report (searched.Found place form wrong looked)
 found-report place wrong looked number form is = ap {B = List ℕ} (λ (n : ℕ). 1 ∷ place ∷ wrong ∷ looked ∷ n ∷ []) is
 
 -- ---- the reports of decode, receive and salvage

@@ -1,13 +1,13 @@
 -- What the exported calls answer and leave, by the outcomes of the calls beneath (document 01, "Refusal numbers and the order of checks"; document 02,
 -- (ii), (iii), (v), (vi) and (vii)).
 use Rattle.std.specs.Prelude.{◌≡◌, Bool, true, false, not, ◌≢◌, List, [], ◌∷◌, ◌++◌, ℕ, ◌+◌, ◌*◌, eqb, get_or}
-use Rattle.refusals.specs.Numbers.{verdictNumber}
+use Rattle.refusals.specs.Numbers.{verdict_number}
 use Rattle.refusals.specs.declared.Verdict.{Verdict}
 use Rattle.encoding.specs.Outcome.{EncodeOutcome}
-use Rattle.reed_solomon.specs.Outcome.{DecodeOutcome, decodedNumber, decodedValue}
+use Rattle.reed_solomon.specs.Outcome.{DecodeOutcome, decoded_number, decoded_value}
 use Rattle.reed_solomon.specs.Salvaging.{SalvageOutcome}
 use Rattle.frame_portions.specs.declared.Progress.{Progress}
-use Rattle.frame_portions.specs.Portions.{octetRows, held_rows, PortionOutcome, CloseOutcome}
+use Rattle.frame_portions.specs.Portions.{octet_rows, held_rows, PortionOutcome, CloseOutcome}
 use Rattle.randomiser.specs.Outcome.{RandomiseOutcome}
 use Rattle.marker.specs.declared.Form.{Form}
 use Rattle.marker.specs.declared.Form.TheVariants.{True, Complement}
@@ -15,14 +15,14 @@ use Rattle.marker.specs.declared.Tested.{Tested}
 use Rattle.marker.specs.declared.Tested.TheVariants as test
 use Rattle.marker.specs.declared.Searched.{Searched}
 use Rattle.marker.specs.declared.Searched.TheVariants.{Found, Absent, Spent, Refused}
-use Rattle.marker.specs.Outcome.{testedNumber, testedValue, searchedNumber, TestOutcome, SearchOutcome}
+use Rattle.marker.specs.Outcome.{tested_number, tested_value, searched_number, TestOutcome, SearchOutcome}
 use Rattle.convolution.specs.declared.State.{State}
 use Rattle.convolution.specs.declared.Convolved.{Convolved}
 use Rattle.convolution.specs.declared.Ran.{Ran}
 use Rattle.convolution.specs.Outcome as coder
 use Rattle.viterbi.specs.declared.Sought.{Sought}
-use Rattle.viterbi.specs.Outcome.{soughtNumber, soughtPlaces, soughtRegister, LikeliestOutcome}
-use Rattle.chain.specs.Outcome.{TransmitOutcome, ReceiveOutcome, receivedNumber, receivedValue}
+use Rattle.viterbi.specs.Outcome.{sought_number, sought_places, sought_register, LikeliestOutcome}
+use Rattle.chain.specs.Outcome.{TransmitOutcome, ReceiveOutcome, received_number, received_value}
 
 -- An answer in one number: the refusal's number, 0 if accepted, in the lowest eight bits, and the refusal's value above them.
 abbrev pub code : ℕ → ℕ → ℕ
@@ -38,9 +38,9 @@ truth true = 1
 truth false = 0
 
 -- The form of a marker: 1 true, 2 complement.
-abbrev pub formNumber : Form → ℕ
-formNumber True = 1
-formNumber Complement = 2
+abbrev pub form_number : Form → ℕ
+form_number True = 1
+form_number Complement = 2
 
 -- What C lends for a report is as it was if the call was refused, by its number, and holds the report if it was accepted.
 pub record Lent {A : Type 0} (number : ℕ) (report before after : A) : Type 0 where
@@ -51,7 +51,7 @@ pub record Lent {A : Type 0} (number : ℕ) (report before after : A) : Type 0 w
 pub record VerdictCall (Permits : Verdict → List ℕ → Type 0) (answer : ℕ) (after : List ℕ) : Type 0 where
   pub verdict : Verdict
   pub outcome : Permits verdict after
-  pub coded : answer ≡ verdictNumber verdict
+  pub coded : answer ≡ verdict_number verdict
 
 abbrev pub EncodeCall : ℕ → ℕ → ℕ → List ℕ → List ℕ → ℕ → List ℕ → Type 0
 EncodeCall e i q frame before answer after = VerdictCall (EncodeOutcome e i q frame before) answer after
@@ -66,14 +66,14 @@ TransmitCall e i q randomised frame before answer after = VerdictCall (TransmitO
 abbrev pub state_of : List ℕ → List (List ℕ) → Progress
 state_of numbers rows = record { place = get_or numbers 0 0; closed = flag (get_or numbers 1 0); rows = held_rows rows }
 
-abbrev pub stateNumbers : Progress → List ℕ
-stateNumbers state = state.place ∷ truth state.closed ∷ []
+abbrev pub state_numbers : Progress → List ℕ
+state_numbers state = state.place ∷ truth state.closed ∷ []
 
 -- A state that is put in place of the one that was lent, by the number of the verdict that came with it.
 pub record StatePut (verdict : Verdict) (next : Progress) (numbers : List ℕ) (rows : List (List ℕ)) (answer : ℕ) (numbers' : List ℕ) (rows' : List (List ℕ)) : Type 0 where
-  pub coded : answer ≡ verdictNumber verdict
-  pub told : Lent (verdictNumber verdict) (stateNumbers next) numbers numbers'
-  pub held : Lent (verdictNumber verdict) (octetRows next.rows) rows rows'
+  pub coded : answer ≡ verdict_number verdict
+  pub told : Lent (verdict_number verdict) (state_numbers next) numbers numbers'
+  pub held : Lent (verdict_number verdict) (octet_rows next.rows) rows rows'
 
 -- A call on a frame in portions: a verdict, a state and a buffer that the outcome permits, the state put in place.
 pub record PortioningCall (Permits : Verdict → Progress → List ℕ → Type 0) (numbers : List ℕ) (rows : List (List ℕ)) (answer : ℕ)
@@ -101,23 +101,23 @@ pub record DecodingCall {Answer Report : Type 0} (number_of value_of : Answer �
   pub lent : Lent (number_of answered) (listed reported) before report
 
 -- Decode's report: the counts of eight words, then the total. Receive's has one number more, whether the block was inverted.
-abbrev pub decodeListed : List ℕ × ℕ → List ℕ
-decodeListed reported = reported.0 ++ (reported.1 ∷ [])
+abbrev pub decode_listed : List ℕ × ℕ → List ℕ
+decode_listed reported = reported.0 ++ (reported.1 ∷ [])
 
-abbrev pub receiveListed : List ℕ × ℕ × Bool → List ℕ
-receiveListed reported = reported.0 ++ (reported.1 ∷ truth reported.2 ∷ [])
+abbrev pub receive_listed : List ℕ × ℕ × Bool → List ℕ
+receive_listed reported = reported.0 ++ (reported.1 ∷ truth reported.2 ∷ [])
 
 abbrev pub DecodeCall : ℕ → ℕ → ℕ → ℕ → List ℕ → List ℕ → List ℕ → ℕ → List ℕ → List ℕ → Type 0
 DecodeCall e i q s block before reported answer after report =
-    DecodingCall decodedNumber decodedValue decodeListed (λ a r. DecodeOutcome e i q s block before a r.0 r.1) reported answer after report
+    DecodingCall decoded_number decoded_value decode_listed (λ a r. DecodeOutcome e i q s block before a r.0 r.1) reported answer after report
 
 abbrev pub ReceiveCall : ℕ → ℕ → ℕ → ℕ → ℕ → ℕ → List ℕ → List ℕ → List ℕ → ℕ → List ℕ → List ℕ → Type 0
 ReceiveCall e i q s t randomised marked before reported answer after report =
-    DecodingCall receivedNumber receivedValue receiveListed (λ a r. ReceiveOutcome e i q s t (flag randomised) marked before a r.0 r.1 r.2) reported answer after report
+    DecodingCall received_number received_value receive_listed (λ a r. ReceiveOutcome e i q s t (flag randomised) marked before a r.0 r.1 r.2) reported answer after report
 
 -- Salvage's report: the marks of eight words, their counts, then the number of entries in the list.
-abbrev pub salvageListed : List ℕ → List ℕ → ℕ → List ℕ
-salvageListed marks counts entries = marks ++ (counts ++ (entries ∷ []))
+abbrev pub salvage_listed : List ℕ → List ℕ → ℕ → List ℕ
+salvage_listed marks counts entries = marks ++ (counts ++ (entries ∷ []))
 
 -- Salvage: the number of a verdict, and frame and list, that the outcome permits with its report, which is put in place.
 pub record SalvageCall (e i q s : ℕ) (block before listed reported : List ℕ) (answer : ℕ) (frame list report : List ℕ) : Type 0 where
@@ -126,33 +126,33 @@ pub record SalvageCall (e i q s : ℕ) (block before listed reported : List ℕ)
   pub counts : List ℕ
   pub entries : ℕ
   pub outcome : SalvageOutcome e i q s block before listed verdict marks counts entries frame list
-  pub coded : answer ≡ verdictNumber verdict
-  pub lent : Lent (verdictNumber verdict) (salvageListed marks counts entries) reported report
+  pub coded : answer ≡ verdict_number verdict
+  pub lent : Lent (verdict_number verdict) (salvage_listed marks counts entries) reported report
 
 -- What an accepted marker test reports: the form, and its wrong bits.
-abbrev pub testReport : Tested → List ℕ
-testReport (test.Accepted form wrong) = formNumber form ∷ wrong ∷ []
-testReport (test.Refused r) = []
+abbrev pub test_report : Tested → List ℕ
+test_report (test.Accepted form wrong) = form_number form ∷ wrong ∷ []
+test_report (test.Refused r) = []
 
 -- The marker test: if accepted it reports; if refused by 9 it has the fewest wrong bits as the refusal's value.
 pub record MarkerCall (tolerance : ℕ) (octets before : List ℕ) (answer : ℕ) (after : List ℕ) : Type 0 where
   pub tested : Tested
   pub outcome : TestOutcome tolerance octets tested
-  pub coded : testedNumber tested ≢ 0 → answer ≡ code (testedNumber tested) (testedValue tested)
-  pub accepted : testedNumber tested ≡ 0 → answer ≡ 0
-  pub lent : Lent (testedNumber tested) (testReport tested) before after
+  pub coded : tested_number tested ≢ 0 → answer ≡ code (tested_number tested) (tested_value tested)
+  pub accepted : tested_number tested ≡ 0 → answer ≡ 0
+  pub lent : Lent (tested_number tested) (test_report tested) before after
 
 -- What an accepted search reports: 1 found, 2 absent, 3 spent; the place, 0 if absent; the wrong bits, 0 unless found; the places looked at; the form, 0 unless found.
-abbrev pub searchReport : Searched → List ℕ
-searchReport (Found place form wrong looked) = 1 ∷ place ∷ wrong ∷ looked ∷ formNumber form ∷ []
-searchReport (Absent looked) = 2 ∷ 0 ∷ 0 ∷ looked ∷ 0 ∷ []
-searchReport (Spent place looked) = 3 ∷ place ∷ 0 ∷ looked ∷ 0 ∷ []
-searchReport (Refused p) = []
+abbrev pub search_report : Searched → List ℕ
+search_report (Found place form wrong looked) = 1 ∷ place ∷ wrong ∷ looked ∷ form_number form ∷ []
+search_report (Absent looked) = 2 ∷ 0 ∷ 0 ∷ looked ∷ 0 ∷ []
+search_report (Spent place looked) = 3 ∷ place ∷ 0 ∷ looked ∷ 0 ∷ []
+search_report (Refused p) = []
 
 -- A search that was answered so: its number, and its report if it was accepted.
 pub record Reported (searched : Searched) (before : List ℕ) (answer : ℕ) (after : List ℕ) : Type 0 where
-  pub coded : answer ≡ searchedNumber searched
-  pub lent : Lent (searchedNumber searched) (searchReport searched) before after
+  pub coded : answer ≡ searched_number searched
+  pub lent : Lent (searched_number searched) (search_report searched) before after
 
 -- The search: as the answer that its outcome permits is reported.
 pub record SearchCall (tolerance : ℕ) (stream : List ℕ) (start budget : ℕ) (before : List ℕ) (answer : ℕ) (after : List ℕ) : Type 0 where
@@ -161,41 +161,41 @@ pub record SearchCall (tolerance : ℕ) (stream : List ℕ) (start budget : ℕ)
   pub reported : Reported searched before answer after
 
 -- The coder's state as C lends it: four octets, its register, its place in the period, how many symbols it holds, and those symbols.
-abbrev pub coderOf : List ℕ → State
-coderOf octets = record { register = get_or octets 0 0; place = get_or octets 1 0; holds = get_or octets 2 0; held = get_or octets 3 0 }
+abbrev pub coder_of : List ℕ → State
+coder_of octets = record { register = get_or octets 0 0; place = get_or octets 1 0; holds = get_or octets 2 0; held = get_or octets 3 0 }
 
-abbrev pub coderOctets : State → List ℕ
-coderOctets state = state.register ∷ state.place ∷ state.holds ∷ state.held ∷ []
+abbrev pub coder_octets : State → List ℕ
+coder_octets state = state.register ∷ state.place ∷ state.holds ∷ state.held ∷ []
 
 -- A count of symbols that is put in place of the one that was lent, by the number of the answer that it came with.
 pub record CountPut (answered : Convolved) (counted answer count : ℕ) : Type 0 where
-  pub coded : answer ≡ coder.convolvedNumber answered
-  pub lent : Lent (coder.convolvedNumber answered) (coder.convolvedCount answered) counted count
+  pub coded : answer ≡ coder.convolved_number answered
+  pub lent : Lent (coder.convolved_number answered) (coder.convolved_count answered) counted count
 
 -- So with the state that came with them.
 pub record RanPut (ran : Ran) (octets : List ℕ) (counted answer : ℕ) (octets' : List ℕ) (count : ℕ) : Type 0 where
   pub reported : CountPut ran.answer counted answer count
-  pub held : Lent (coder.convolvedNumber ran.answer) (coderOctets ran.state) octets octets'
+  pub held : Lent (coder.convolved_number ran.answer) (coder_octets ran.state) octets octets'
 
 -- Convolve: an answer, a state and a buffer that the outcome permits, the state and the number of symbols put in place.
 pub record ConvolveCall (rate : ℕ) (octets input before : List ℕ) (counted answer : ℕ) (octets' after : List ℕ) (count : ℕ) : Type 0 where
   pub ran : Ran
-  pub outcome : coder.ConvolveOutcome rate (coderOf octets) input before ran after
+  pub outcome : coder.ConvolveOutcome rate (coder_of octets) input before ran after
   pub put : RanPut ran octets counted answer octets' count
 
 -- Its close: an answer and a buffer that the outcome permits, and the number of symbols put in place; the state is read only.
 pub record ConvolveCloseCall (rate : ℕ) (octets before : List ℕ) (counted answer : ℕ) (after : List ℕ) (count : ℕ) : Type 0 where
   pub convolved : Convolved
-  pub outcome : coder.CloseOutcome rate (coderOf octets) before convolved after
+  pub outcome : coder.CloseOutcome rate (coder_of octets) before convolved after
   pub put : CountPut convolved counted answer count
 
 -- What an accepted search for the likeliest data reports: the differing places, and the register reached.
-abbrev pub soughtReport : Sought → List ℕ
-soughtReport answered = soughtPlaces answered ∷ soughtRegister answered ∷ []
+abbrev pub sought_report : Sought → List ℕ
+sought_report answered = sought_places answered ∷ sought_register answered ∷ []
 
 -- The likeliest data: the number of an answer and a buffer that the outcome permits, and the report put in place.
 pub record LikeliestCall (register : ℕ) (symbols before reported : List ℕ) (answer : ℕ) (after report : List ℕ) : Type 0 where
   pub answered : Sought
   pub outcome : LikeliestOutcome register symbols before answered after
-  pub coded : answer ≡ soughtNumber answered
-  pub lent : Lent (soughtNumber answered) (soughtReport answered) reported report
+  pub coded : answer ≡ sought_number answered
+  pub lent : Lent (sought_number answered) (sought_report answered) reported report

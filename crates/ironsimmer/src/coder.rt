@@ -1,11 +1,11 @@
 // The coder's state and its count of symbols, in what C lends. The whole state is put in place: a refused call then cannot have written a part.
 ghost use Rattle.std.specs.Prelude.{◌≡◌};
-ghost use Rattle.ironsimmer.specs.Exported.{coderOf, CountPut, RanPut};
+ghost use Rattle.ironsimmer.specs.Exported.{coder_of, CountPut, RanPut};
 
 use convolution::{Convolved, Ran, State};
 
 pub(crate) fn state_of(octets: &[u8; 4]) -> State
-    ensures { result ≡ coderOf octets.now }
+    ensures { result ≡ coder_of octets.now }
 {
     State {
         register: octets[0],

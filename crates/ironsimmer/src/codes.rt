@@ -1,16 +1,16 @@
 // Refusals as one number: the refusal's number, and 256 times its value; the forms of the marker and flags as numbers.
 ghost use Rattle.std.specs.Prelude.{◌≡◌};
-ghost use Rattle.refusals.specs.Numbers.{markerNumber, markerValue, wordNumber, wordValue};
+ghost use Rattle.refusals.specs.Numbers.{marker_number, marker_value, word_number, word_value};
 ghost use Rattle.chain.specs.declared.Received.TheVariants as received;
-ghost use Rattle.chain.specs.Outcome.{receivedNumber, receivedValue};
-ghost use Rattle.ironsimmer.specs.Exported.{code, truth, formNumber};
+ghost use Rattle.chain.specs.Outcome.{received_number, received_value};
+ghost use Rattle.ironsimmer.specs.Exported.{code, truth, form_number};
 
 use chain::Stage;
 use marker::Form;
 use refusals::{MarkerRefusal, WordRefusal};
 
 pub(crate) fn marker_code(refusal: MarkerRefusal) -> u64
-    ensures { result ≡ code (markerNumber refusal) (markerValue refusal) }
+    ensures { result ≡ code (marker_number refusal) (marker_value refusal) }
 {
     match refusal {
         MarkerRefusal::Parameters(p) => refusals::parameter_number(p),
@@ -19,7 +19,7 @@ pub(crate) fn marker_code(refusal: MarkerRefusal) -> u64
 }
 
 pub(crate) fn word_code(refusal: WordRefusal) -> u64
-    ensures { result ≡ code (wordNumber refusal) (wordValue refusal) }
+    ensures { result ≡ code (word_number refusal) (word_value refusal) }
 {
     match refusal {
         WordRefusal::Parameters(p) => refusals::parameter_number(p),
@@ -28,7 +28,7 @@ pub(crate) fn word_code(refusal: WordRefusal) -> u64
 }
 
 pub(crate) fn stage_code(stage: Stage) -> u64
-    ensures { result ≡ code (receivedNumber (received.Refused stage)) (receivedValue (received.Refused stage)) }
+    ensures { result ≡ code (received_number (received.Refused stage)) (received_value (received.Refused stage)) }
 {
     match stage {
         Stage::Parameters(p) => refusals::parameter_number(p),
@@ -38,7 +38,7 @@ pub(crate) fn stage_code(stage: Stage) -> u64
 }
 
 pub(crate) fn form_number(form: Form) -> u32
-    ensures { result ≡ formNumber form }
+    ensures { result ≡ form_number form }
 {
     match form {
         Form::True => 1,

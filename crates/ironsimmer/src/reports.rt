@@ -1,6 +1,6 @@
 // What an accepted call reports, in the arrays that C lends. A whole array is put in place at once: a refused call then cannot have written a part.
 ghost use Rattle.std.specs.Prelude.{◌≡◌, [], ◌∷◌, ◌++◌, length};
-ghost use Rattle.ironsimmer.specs.Exported.{salvageListed, Reported};
+ghost use Rattle.ironsimmer.specs.Exported.{salvage_listed, Reported};
 
 use crate::codes::form_number;
 use marker::Searched;
@@ -45,7 +45,7 @@ pub(crate) fn reception_of(counts: [u8; 8], total: u32, inverted: u32) -> [u32; 
 // The marks of eight words, their counts, then the number of entries in the list.
 pub(crate) fn salvage_of(marks: [u8; 8], counts: [u8; 8], entries: u32) -> [u32; 17]
     requires { (length marks ≡ 8) × (length counts ≡ 8) }
-    ensures { result ≡ salvageListed marks counts entries }
+    ensures { result ≡ salvage_listed marks counts entries }
 {
     [
         marks[0] as u32,

@@ -3,41 +3,41 @@ use Rattle.std.proofs.Common.{◌≡◌, ℕ, zero, suc, ◌+◌, ◌-◌, ◌<�
 use lib.Bits.{differ}
 use Rattle.octets.specs.Bits.{bit_at}
 use Rattle.refusals.specs.Order.{FirstOf}
-use Rattle.refusals.specs.Calls.{markerOrder, searchOrder}
+use Rattle.refusals.specs.Calls.{marker_order, search_order}
 use Rattle.marker.specs.declared.Form.{Form}
 use Rattle.marker.specs.declared.Form.TheVariants.{True}
 use Rattle.marker.specs.declared.Tested.{Tested}
 use Rattle.marker.specs.declared.Searched.{Searched}
 use Rattle.marker.specs.declared.Searched.TheVariants.{Found, Absent, Spent, Refused}
-use Rattle.marker.specs.Place.{marker, wrongAmong, wrongBits, formAt, fewestWrong, Place, remaining}
-use Rattle.marker.specs.Outcome.{testedNumber, testedValue, searchedNumber, TestOutcome, Looked, SearchOutcome}
-use Rattle.marker.proofs.Forms.{named-form-wrong, form-fits}
+use Rattle.marker.specs.Place.{marker, wrong_among, wrong_bits, form_at, fewest_wrong, Place, remaining}
+use Rattle.marker.specs.Outcome.{tested_number, tested_value, searched_number, TestOutcome, Looked, SearchOutcome}
+use Rattle.marker.proofs.Forms.{named_form_wrong, form_fits}
 
 -- ---- the definitions of before
 
-unfoldable pub wrongAmongBefore : ℕ → List ℕ → ℕ → ℕ
-wrongAmongBefore zero stream p = 0
-wrongAmongBefore (suc n) stream p = wrongAmongBefore n stream p + differ (bit_at stream (p + n)) (bit_at marker n)
+unfoldable pub wrong_among_before : ℕ → List ℕ → ℕ → ℕ
+wrong_among_before zero stream p = 0
+wrong_among_before (suc n) stream p = wrong_among_before n stream p + differ (bit_at stream (p + n)) (bit_at marker n)
 
-abbrev pub wrongBitsBefore : List ℕ → ℕ → ℕ
-wrongBitsBefore stream p = wrongAmongBefore 32 stream p
+abbrev pub wrong_bits_before : List ℕ → ℕ → ℕ
+wrong_bits_before stream p = wrong_among_before 32 stream p
 
 abbrev pub FitsBefore : ℕ → List ℕ → ℕ → Type 0
-FitsBefore tolerance stream p = wrongBitsBefore stream p ≤ tolerance
+FitsBefore tolerance stream p = wrong_bits_before stream p ≤ tolerance
 
 abbrev pub NoneFitsBefore : ℕ → List ℕ → ℕ → ℕ → Type 0
 NoneFitsBefore tolerance stream start end = (p : ℕ) → start ≤ p → p < end → FitsBefore tolerance stream p → ⊥
 
 pub record TestBefore (tolerance : ℕ) (octets : List ℕ) (answer : Tested) : Type 0 where
-  pub number : FirstOf (markerOrder tolerance (length octets) (wrongBitsBefore octets 0)) (testedNumber answer)
-  pub value : (testedNumber answer ≡ 0) ⊎ (testedNumber answer ≡ 9) → testedValue answer ≡ wrongBitsBefore octets 0
+  pub number : FirstOf (marker_order tolerance (length octets) (wrong_bits_before octets 0)) (tested_number answer)
+  pub value : (tested_number answer ≡ 0) ⊎ (tested_number answer ≡ 9) → tested_value answer ≡ wrong_bits_before octets 0
 
 pub record FoundBefore (tolerance : ℕ) (stream : List ℕ) (start budget place wrong looked : ℕ) : Type 0 where
   pub from : start ≤ place
   pub inside : Place stream place
   pub fits : FitsBefore tolerance stream place
   pub first : NoneFitsBefore tolerance stream start place
-  pub bits : wrong ≡ wrongBitsBefore stream place
+  pub bits : wrong ≡ wrong_bits_before stream place
   pub counted : looked ≡ place - start + 1
   pub affordable : looked ≤ budget
 
@@ -60,31 +60,31 @@ LookedBefore tolerance stream start budget (Spent next looked) = SpentBefore tol
 LookedBefore tolerance stream start budget (Refused p) = ⊥
 
 pub record SearchBefore (tolerance : ℕ) (stream : List ℕ) (start budget : ℕ) (answer : Searched) : Type 0 where
-  pub number : FirstOf (searchOrder tolerance (length stream) start) (searchedNumber answer)
-  pub looked : searchedNumber answer ≡ 0 → LookedBefore tolerance stream start budget answer
+  pub number : FirstOf (search_order tolerance (length stream) start) (searched_number answer)
+  pub looked : searched_number answer ≡ 0 → LookedBefore tolerance stream start budget answer
 
 -- ---- they stand
 
 -- The wrong bits of before are those of the true form.
-pub as-true : (n : ℕ) (stream : List ℕ) (p : ℕ) → wrongAmong True n stream p ≡ wrongAmongBefore n stream p
-unfolding wrongAmong wrongAmongBefore
-as-true zero stream p = refl
-as-true (suc n) stream p = ap (λ (x : ℕ). x + differ (bit_at stream (p + n)) (bit_at marker n)) (as-true n stream p)
+pub as_true : (n : ℕ) (stream : List ℕ) (p : ℕ) → wrong_among True n stream p ≡ wrong_among_before n stream p
+unfolding wrong_among wrong_among_before
+as_true zero stream p = refl
+as_true (suc n) stream p = ap (λ (x : ℕ). x + differ (bit_at stream (p + n)) (bit_at marker n)) (as_true n stream p)
 
 -- Where the true form is nearer they are the fewest.
-pub fewest-as-before : (stream : List ℕ) (p : ℕ) → formAt stream p ≡ True → fewestWrong stream p ≡ wrongBitsBefore stream p
-fewest-as-before stream p true = sym (named-form-wrong stream p) ∙ ap (λ (form : Form). wrongBits form stream p) true ∙ as-true 32 stream p
+pub fewest_as_before : (stream : List ℕ) (p : ℕ) → form_at stream p ≡ True → fewest_wrong stream p ≡ wrong_bits_before stream p
+fewest_as_before stream p true = sym (named_form_wrong stream p) ∙ ap (λ (form : Form). wrong_bits form stream p) true ∙ as_true 32 stream p
 
 -- What fitted before fits.
-fitted : (tolerance : ℕ) (stream : List ℕ) (p : ℕ) → FitsBefore tolerance stream p → fewestWrong stream p ≤ tolerance
-fitted tolerance stream p fits = form-fits tolerance stream p True (omega (arith, as-true 32 stream p))
+fitted : (tolerance : ℕ) (stream : List ℕ) (p : ℕ) → FitsBefore tolerance stream p → fewest_wrong stream p ≤ tolerance
+fitted tolerance stream p fits = form_fits tolerance stream p True (omega (arith, as_true 32 stream p))
 
 -- With a true marker the test answers as before, accepted or refused.
-pub test-true-as-before : (tolerance : ℕ) (octets : List ℕ) (answer : Tested) → formAt octets 0 ≡ True → TestOutcome tolerance octets answer → TestBefore tolerance octets answer
-test-true-as-before tolerance octets answer true O =
+pub test_true_as_before : (tolerance : ℕ) (octets : List ℕ) (answer : Tested) → form_at octets 0 ≡ True → TestOutcome tolerance octets answer → TestBefore tolerance octets answer
+test_true_as_before tolerance octets answer true O =
     record {
-      number = rw (fewest-as-before octets 0 true) at O.number;
-      value = λ h. O.value h ∙ fewest-as-before octets 0 true;
+      number = rw (fewest_as_before octets 0 true) at O.number;
+      value = λ h. O.value h ∙ fewest_as_before octets 0 true;
     }
 
 -- No complement was found.
@@ -95,13 +95,13 @@ TrueIfFound (Spent next looked) = Unit
 TrueIfFound (Refused p) = Unit
 
 -- The search answers as before, unless it finds a complement first.
-pub search-true-as-before : (tolerance : ℕ) (stream : List ℕ) (start budget : ℕ) (answer : Searched) → TrueIfFound answer → SearchOutcome tolerance stream start budget answer
+pub search_true_as_before : (tolerance : ℕ) (stream : List ℕ) (start budget : ℕ) (answer : Searched) → TrueIfFound answer → SearchOutcome tolerance stream start budget answer
     → SearchBefore tolerance stream start budget answer
-search-true-as-before tolerance stream start budget answer true O = record { number = O.number; looked = λ z. seen answer true (O.looked z) }
+search_true_as_before tolerance stream start budget answer true O = record { number = O.number; looked = λ z. seen answer true (O.looked z) }
   where
     seen : (a : Searched) → TrueIfFound a → Looked tolerance stream start budget a → LookedBefore tolerance stream start budget a
     seen (Found place form wrong looked) true F =
-        let same : fewestWrong stream place ≡ wrongBitsBefore stream place = fewest-as-before stream place (sym F.named ∙ true) in
+        let same : fewest_wrong stream place ≡ wrong_bits_before stream place = fewest_as_before stream place (sym F.named ∙ true) in
         record {
           from = F.from;
           inside = F.inside;

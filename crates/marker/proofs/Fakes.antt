@@ -3,33 +3,33 @@ use Rattle.std.proofs.Common.{◌≡◌, ℕ, ◌+◌, ◌-◌, ◌≤◌, ◌�
 use Rattle.marker.specs.declared.Searched.{Searched}
 use Rattle.marker.specs.declared.Searched.TheVariants.{Found, Absent, Spent, Refused}
 use Rattle.marker.specs.Place.{remaining}
-use Rattle.marker.specs.Outcome.{searchedNumber, SearchOutcome}
-use Rattle.refusals.proofs.Verdicts.{parameter-nonzero}
+use Rattle.marker.specs.Outcome.{searched_number, SearchOutcome}
+use Rattle.refusals.proofs.Verdicts.{parameter_nonzero}
 
 -- The number looked at that an answer tells; a refusal tells none.
-abbrev pub toldLooked : Searched → ℕ
-toldLooked (Found place form wrong looked) = looked
-toldLooked (Absent looked) = looked
-toldLooked (Spent next looked) = looked
-toldLooked (Refused p) = 0
+abbrev pub told_looked : Searched → ℕ
+told_looked (Found place form wrong looked) = looked
+told_looked (Absent looked) = looked
+told_looked (Spent next looked) = looked
+told_looked (Refused p) = 0
 
 -- The number that document 01 gives: found, place - start + 1; absent, as many as remained; spent, the budget.
-abbrev pub placesLooked : List ℕ → ℕ → ℕ → Searched → ℕ
-placesLooked stream start budget (Found place form wrong looked) = place - start + 1
-placesLooked stream start budget (Absent looked) = remaining stream start
-placesLooked stream start budget (Spent next looked) = budget
-placesLooked stream start budget (Refused p) = 0
+abbrev pub places_looked : List ℕ → ℕ → ℕ → Searched → ℕ
+places_looked stream start budget (Found place form wrong looked) = place - start + 1
+places_looked stream start budget (Absent looked) = remaining stream start
+places_looked stream start budget (Spent next looked) = budget
+places_looked stream start budget (Refused p) = 0
 
 module _ (t : ℕ) (stream : List ℕ) (start budget : ℕ) where
   -- A search that is not refused tells the number that document 01 gives, and never looks at more places than its budget.
-  pub looked-as-defined : (answer : Searched) → SearchOutcome t stream start budget answer → searchedNumber answer ≡ 0
-      → (toldLooked answer ≡ placesLooked stream start budget answer) × (toldLooked answer ≤ budget)
-  looked-as-defined (Found place form wrong looked) O z = ((O.looked z).counted, (O.looked z).affordable)
-  looked-as-defined (Absent looked) O z = ((O.looked z).counted, (O.looked z).affordable)
-  looked-as-defined (Spent next looked) O z = ((O.looked z).counted, omega (arith, (O.looked z).counted))
-  looked-as-defined (Refused p) O z = absurd (parameter-nonzero p z)
+  pub looked_as_defined : (answer : Searched) → SearchOutcome t stream start budget answer → searched_number answer ≡ 0
+      → (told_looked answer ≡ places_looked stream start budget answer) × (told_looked answer ≤ budget)
+  looked_as_defined (Found place form wrong looked) O z = ((O.looked z).counted, (O.looked z).affordable)
+  looked_as_defined (Absent looked) O z = ((O.looked z).counted, (O.looked z).affordable)
+  looked_as_defined (Spent next looked) O z = ((O.looked z).counted, omega (arith, (O.looked z).counted))
+  looked_as_defined (Refused p) O z = absurd (parameter_nonzero p z)
 
   -- One that invents counts: no answer with another number looked at is permitted.
-  pub not-an-invented-number-looked-at : (answer : Searched) → SearchOutcome t stream start budget answer → searchedNumber answer ≡ 0
-      → toldLooked answer ≢ placesLooked stream start budget answer → ⊥
-  not-an-invented-number-looked-at answer O z invented = invented (looked-as-defined answer O z).0
+  pub not_an_invented_number_looked_at : (answer : Searched) → SearchOutcome t stream start budget answer → searched_number answer ≡ 0
+      → told_looked answer ≢ places_looked stream start budget answer → ⊥
+  not_an_invented_number_looked_at answer O z invented = invented (looked_as_defined answer O z).0

@@ -10,25 +10,25 @@ use Rattle.marker.specs.Outcome.{FoundFirst, NoneLeft, BudgetSpent, Looked}
 
 module _ (tolerance : ℕ) (stream : List ℕ) where
   -- None fits in two runs of places, the second from where the first ends.
-  pub none-joined : (start middle end : ℕ) → NoneFits tolerance stream start middle → NoneFits tolerance stream middle end → NoneFits tolerance stream start end
-  none-joined start middle end front rest p from before fits =
+  pub none_joined : (start middle end : ℕ) → NoneFits tolerance stream start middle → NoneFits tolerance stream middle end → NoneFits tolerance stream start end
+  none_joined start middle end front rest p from before fits =
       elim (dec_lt p middle) [
         | yes early ↦ front p from early fits
         | no late ↦ rest p (omega arith) before fits
       ]
 
   -- The budget was spent on places none of which fits.
-  pub none-spent : (start n : ℕ) (answer : Searched) {next looked : ℕ} → answer ≡ Spent next looked → Looked tolerance stream start n answer
+  pub none_spent : (start n : ℕ) (answer : Searched) {next looked : ℕ} → answer ≡ Spent next looked → Looked tolerance stream start n answer
       → NoneFits tolerance stream start (start + n)
-  none-spent start n answer is seen = spent (rw is at seen)
+  none_spent start n answer is seen = spent (rw is at seen)
     where
       spent : {next looked : ℕ} → BudgetSpent tolerance stream start n next looked → NoneFits tolerance stream start (start + n)
       spent S p from before fits = S.none p from (omega (arith, S.reached)) fits
 
   -- What was answered before the budget was spent, a larger budget answers too.
-  pub more-budget : (start n budget : ℕ) (answer : Searched) → Looked tolerance stream start n answer → ((next looked : ℕ) → answer ≡ Spent next looked → ⊥) → n ≤ budget
+  pub more_budget : (start n budget : ℕ) (answer : Searched) → Looked tolerance stream start n answer → ((next looked : ℕ) → answer ≡ Spent next looked → ⊥) → n ≤ budget
       → Looked tolerance stream start budget answer
-  more-budget start n budget (Found place form wrong looked) F unspent more =
+  more_budget start n budget (Found place form wrong looked) F unspent more =
       record {
         from = F.from;
         inside = F.inside;
@@ -39,21 +39,21 @@ module _ (tolerance : ℕ) (stream : List ℕ) where
         counted = F.counted;
         affordable = omega (arith, F.affordable);
       }
-  more-budget start n budget (Absent looked) N unspent more = record { none = N.none; counted = N.counted; affordable = omega (arith, N.affordable) }
-  more-budget start n budget (Spent next looked) S unspent more = absurd (unspent next looked refl)
-  more-budget start n budget (Refused p) N unspent more = N
+  more_budget start n budget (Absent looked) N unspent more = record { none = N.none; counted = N.counted; affordable = omega (arith, N.affordable) }
+  more_budget start n budget (Spent next looked) S unspent more = absurd (unspent next looked refl)
+  more_budget start n budget (Refused p) N unspent more = N
 
   -- An answer of a walk is no refusal.
-  pub no-refusal : (start n : ℕ) {Anything : Type 0} (answer : Searched) {p : Parameter} → answer ≡ Refused p → Looked tolerance stream start n answer → Anything
-  no-refusal start n answer is seen = absurd (rw is at seen)
+  pub no_refusal : (start n : ℕ) {Anything : Type 0} (answer : Searched) {p : Parameter} → answer ≡ Refused p → Looked tolerance stream start n answer → Anything
+  no_refusal start n answer is seen = absurd (rw is at seen)
 
   module _ {start budget passed : ℕ} (room : passed ≤ budget) (inside : passed ≤ remaining stream start) (front : NoneFits tolerance stream start (start + passed)) where
     abbrev After : Searched → Type 0
     After = Looked tolerance stream (start + passed) (budget - passed)
 
-    pub found-later : (answer : Searched) {place : ℕ} {form : Form} {wrong looked : ℕ} → answer ≡ Found place form wrong looked → After answer
+    pub found_later : (answer : Searched) {place : ℕ} {form : Form} {wrong looked : ℕ} → answer ≡ Found place form wrong looked → After answer
         → FoundFirst tolerance stream start budget place form wrong (passed + looked)
-    found-later answer is seen = found (rw is at seen)
+    found_later answer is seen = found (rw is at seen)
       where
         found : {place : ℕ} {form : Form} {wrong looked : ℕ} → After (Found place form wrong looked) → FoundFirst tolerance stream start budget place form wrong (passed + looked)
         found {place} F =
@@ -61,15 +61,15 @@ module _ (tolerance : ℕ) (stream : List ℕ) where
               from = omega (arith, F.from);
               inside = F.inside;
               fits = F.fits;
-              first = none-joined start (start + passed) place front F.first;
+              first = none_joined start (start + passed) place front F.first;
               named = F.named;
               bits = F.bits;
               counted = omega (arith, F.counted, F.from);
               affordable = omega (arith, F.affordable);
             }
 
-    pub absent-later : (answer : Searched) {looked : ℕ} → answer ≡ Absent looked → After answer → NoneLeft tolerance stream start budget (passed + looked)
-    absent-later answer is seen = absent (rw is at seen)
+    pub absent_later : (answer : Searched) {looked : ℕ} → answer ≡ Absent looked → After answer → NoneLeft tolerance stream start budget (passed + looked)
+    absent_later answer is seen = absent (rw is at seen)
       where
         absent : {looked : ℕ} → After (Absent looked) → NoneLeft tolerance stream start budget (passed + looked)
         absent N =
@@ -82,14 +82,14 @@ module _ (tolerance : ℕ) (stream : List ℕ) where
               affordable = omega (arith, N.affordable);
             }
 
-    pub spent-later : (answer : Searched) {next looked : ℕ} → answer ≡ Spent next looked → After answer → BudgetSpent tolerance stream start budget next (passed + looked)
-    spent-later answer is seen = spent (rw is at seen)
+    pub spent_later : (answer : Searched) {next looked : ℕ} → answer ≡ Spent next looked → After answer → BudgetSpent tolerance stream start budget next (passed + looked)
+    spent_later answer is seen = spent (rw is at seen)
       where
         spent : {next looked : ℕ} → After (Spent next looked) → BudgetSpent tolerance stream start budget next (passed + looked)
         spent {next} S =
             record {
               inside = S.inside;
-              none = none-joined start (start + passed) next front S.none;
+              none = none_joined start (start + passed) next front S.none;
               reached = omega (arith, S.reached);
               counted = omega (arith, S.counted);
             }

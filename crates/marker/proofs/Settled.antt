@@ -2,18 +2,18 @@
 use Rattle.std.proofs.Common.{◌≡◌, ℕ, ◌<◌, ◌≤◌, List, length, sym, refl, ap, ◌∙◌, ap₂, inl, inr, arith}
 use Rattle.refusals.specs.declared.MarkerRefusal.TheVariants.{Parameters, WrongBits}
 use Rattle.refusals.specs.declared.Parameter.{Parameter}
-use Rattle.refusals.specs.Numbers.{parameterNumber}
-use Rattle.refusals.specs.Calls.{markerOrder, searchOrder}
+use Rattle.refusals.specs.Numbers.{parameter_number}
+use Rattle.refusals.specs.Calls.{marker_order, search_order}
 use Rattle.marker.specs.declared.Form.{Form}
 use Rattle.marker.specs.declared.Tested.{Tested}
 use Rattle.marker.specs.declared.Tested.TheVariants as tested
 use Rattle.marker.specs.declared.Searched.{Searched}
 use Rattle.marker.specs.declared.Searched.TheVariants.{Found, Absent, Spent, Refused}
-use Rattle.marker.specs.Place.{fewestWrong, Fits, NoneFits}
-use Rattle.marker.specs.Outcome.{testedNumber, searchedNumber, TestOutcome, SearchOutcome, FoundFirst, NoneLeft, BudgetSpent, Looked}
-use Rattle.refusals.proofs.Orders.{first-unique}
-use Rattle.refusals.proofs.Settled.{parameter-known}
-use Rattle.refusals.proofs.Verdicts.{parameter-nonzero, parameter-not-nine}
+use Rattle.marker.specs.Place.{fewest_wrong, Fits, NoneFits}
+use Rattle.marker.specs.Outcome.{tested_number, searched_number, TestOutcome, SearchOutcome, FoundFirst, NoneLeft, BudgetSpent, Looked}
+use Rattle.refusals.proofs.Orders.{first_unique}
+use Rattle.refusals.proofs.Settled.{parameter_known}
+use Rattle.refusals.proofs.Verdicts.{parameter_nonzero, parameter_not_nine}
 
 -- The answers that a larger budget never changes.
 abbrev pub FoundOrAbsent : Searched → Type 0
@@ -25,23 +25,23 @@ FoundOrAbsent (Refused p) = ⊥
 -- ---- the test
 
 module _ (t : ℕ) (octets : List ℕ) where
-  same_answer : (a b : Tested) → testedNumber a ≡ testedNumber b → TestOutcome t octets a → TestOutcome t octets b → a ≡ b
+  same_answer : (a b : Tested) → tested_number a ≡ tested_number b → TestOutcome t octets a → TestOutcome t octets b → a ≡ b
   same_answer (tested.Accepted f x) (tested.Accepted g y) n p q = ap₂ tested.Accepted (p.form ∙ sym q.form) (p.value (inl refl) ∙ sym (q.value (inl refl)))
-  same_answer (tested.Accepted f x) (tested.Refused (Parameters b)) n p q = absurd (parameter-nonzero b (sym n))
+  same_answer (tested.Accepted f x) (tested.Refused (Parameters b)) n p q = absurd (parameter_nonzero b (sym n))
   same_answer (tested.Accepted f x) (tested.Refused (WrongBits y)) n p q = absurd (omega arith)
-  same_answer (tested.Refused (Parameters a)) (tested.Accepted g y) n p q = absurd (parameter-nonzero a n)
+  same_answer (tested.Refused (Parameters a)) (tested.Accepted g y) n p q = absurd (parameter_nonzero a n)
   same_answer (tested.Refused (Parameters a)) (tested.Refused (Parameters b)) n p q =
-      ap (λ r. tested.Refused (Parameters r)) (parameter-known a b n)
-  same_answer (tested.Refused (Parameters a)) (tested.Refused (WrongBits y)) n p q = absurd (parameter-not-nine a n)
+      ap (λ r. tested.Refused (Parameters r)) (parameter_known a b n)
+  same_answer (tested.Refused (Parameters a)) (tested.Refused (WrongBits y)) n p q = absurd (parameter_not_nine a n)
   same_answer (tested.Refused (WrongBits x)) (tested.Accepted g y) n p q = absurd (omega arith)
-  same_answer (tested.Refused (WrongBits x)) (tested.Refused (Parameters b)) n p q = absurd (parameter-not-nine b (sym n))
+  same_answer (tested.Refused (WrongBits x)) (tested.Refused (Parameters b)) n p q = absurd (parameter_not_nine b (sym n))
   same_answer (tested.Refused (WrongBits x)) (tested.Refused (WrongBits y)) n p q =
       ap (λ w. tested.Refused (WrongBits w)) (p.value (inr refl) ∙ sym (q.value (inr refl)))
 
-  pub test-settled : (a b : Tested) → TestOutcome t octets a → TestOutcome t octets b → a ≡ b
-  test-settled a b p q =
-      let order = markerOrder t (length octets) (fewestWrong octets 0) in
-      same_answer a b (first-unique order (testedNumber a) (testedNumber b) p.number q.number) p q
+  pub test_settled : (a b : Tested) → TestOutcome t octets a → TestOutcome t octets b → a ≡ b
+  test_settled a b p q =
+      let order = marker_order t (length octets) (fewest_wrong octets 0) in
+      same_answer a b (first_unique order (tested_number a) (tested_number b) p.number q.number) p q
 
 -- ---- the search
 
@@ -54,51 +54,51 @@ module _ (t : ℕ) (s : List ℕ) (start : ℕ) where
       omega arith
 
   -- What one answer says leaves no other to a search whose budget is as large or larger.
-  found-kept : {budget larger place : ℕ} {form : Form} {wrong looked : ℕ} → budget ≤ larger → FoundFirst t s start budget place form wrong looked → (a : Searched)
+  found_kept : {budget larger place : ℕ} {form : Form} {wrong looked : ℕ} → budget ≤ larger → FoundFirst t s start budget place form wrong looked → (a : Searched)
       → Looked t s start larger a → a ≡ Found place form wrong looked
-  found-kept l f (Found place form wrong looked) g =
+  found_kept l f (Found place form wrong looked) g =
       let same : place ≡ _ = same_place g.from f.from g.fits f.fits g.first f.first in
       cc
-  found-kept l f (Absent looked) g = absurd (g.none _ f.from f.inside f.fits)
-  found-kept l f (Spent next looked) g = absurd (g.none _ f.from (omega arith) f.fits)
-  found-kept l f (Refused p) g = absurd g
+  found_kept l f (Absent looked) g = absurd (g.none _ f.from f.inside f.fits)
+  found_kept l f (Spent next looked) g = absurd (g.none _ f.from (omega arith) f.fits)
+  found_kept l f (Refused p) g = absurd g
 
-  absent-kept : {budget larger looked : ℕ} → budget ≤ larger → NoneLeft t s start budget looked → (a : Searched)
+  absent_kept : {budget larger looked : ℕ} → budget ≤ larger → NoneLeft t s start budget looked → (a : Searched)
       → Looked t s start larger a → a ≡ Absent looked
-  absent-kept l h (Found place form wrong looked) g = absurd (h.none place g.from g.inside g.fits)
-  absent-kept l h (Absent looked) g = ap Absent (g.counted ∙ sym h.counted)
-  absent-kept l h (Spent next looked) g = absurd (omega arith)
-  absent-kept l h (Refused p) g = absurd g
+  absent_kept l h (Found place form wrong looked) g = absurd (h.none place g.from g.inside g.fits)
+  absent_kept l h (Absent looked) g = ap Absent (g.counted ∙ sym h.counted)
+  absent_kept l h (Spent next looked) g = absurd (omega arith)
+  absent_kept l h (Refused p) g = absurd g
 
   -- A spent or a refused one is kept by the same budget.
-  spent-kept : {budget next looked : ℕ} → BudgetSpent t s start budget next looked → (a : Searched) → Looked t s start budget a
+  spent_kept : {budget next looked : ℕ} → BudgetSpent t s start budget next looked → (a : Searched) → Looked t s start budget a
       → a ≡ Spent next looked
-  spent-kept h (Found place form wrong looked) g = sym (found-kept (omega arith) g (Spent _ _) h)
-  spent-kept h (Absent looked) g = sym (absent-kept (omega arith) g (Spent _ _) h)
-  spent-kept h (Spent next looked) g = cc
-  spent-kept h (Refused p) g = absurd g
+  spent_kept h (Found place form wrong looked) g = sym (found_kept (omega arith) g (Spent _ _) h)
+  spent_kept h (Absent looked) g = sym (absent_kept (omega arith) g (Spent _ _) h)
+  spent_kept h (Spent next looked) g = cc
+  spent_kept h (Refused p) g = absurd g
 
-  refused-kept : (p : Parameter) (a : Searched) → parameterNumber p ≡ searchedNumber a → a ≡ Refused p
-  refused-kept p (Found place form wrong looked) n = absurd (parameter-nonzero p n)
-  refused-kept p (Absent looked) n = absurd (parameter-nonzero p n)
-  refused-kept p (Spent next looked) n = absurd (parameter-nonzero p n)
-  refused-kept p (Refused q) n = ap Refused (parameter-known q p (sym n))
+  refused_kept : (p : Parameter) (a : Searched) → parameter_number p ≡ searched_number a → a ≡ Refused p
+  refused_kept p (Found place form wrong looked) n = absurd (parameter_nonzero p n)
+  refused_kept p (Absent looked) n = absurd (parameter_nonzero p n)
+  refused_kept p (Spent next looked) n = absurd (parameter_nonzero p n)
+  refused_kept p (Refused q) n = ap Refused (parameter_known q p (sym n))
 
   -- The order does not ask for the budget.
   same_number : {budget other : ℕ} {a b : Searched} → SearchOutcome t s start budget a → SearchOutcome t s start other b
-      → searchedNumber a ≡ searchedNumber b
+      → searched_number a ≡ searched_number b
   same_number {a = a} {b = b} p q =
-      first-unique (searchOrder t (length s) start) (searchedNumber a) (searchedNumber b) p.number q.number
+      first_unique (search_order t (length s) start) (searched_number a) (searched_number b) p.number q.number
 
-  pub larger-budget : {budget larger : ℕ} → budget ≤ larger → (a b : Searched) → SearchOutcome t s start budget a
+  pub larger_budget : {budget larger : ℕ} → budget ≤ larger → (a b : Searched) → SearchOutcome t s start budget a
       → SearchOutcome t s start larger b → FoundOrAbsent a → b ≡ a
-  larger-budget l (Found place form wrong looked) b p q f = found-kept l (p.looked refl) b (q.looked (sym (same_number p q)))
-  larger-budget l (Absent looked) b p q f = absent-kept l (p.looked refl) b (q.looked (sym (same_number p q)))
-  larger-budget l (Spent next looked) b p q f = absurd f
-  larger-budget l (Refused r) b p q f = absurd f
+  larger_budget l (Found place form wrong looked) b p q f = found_kept l (p.looked refl) b (q.looked (sym (same_number p q)))
+  larger_budget l (Absent looked) b p q f = absent_kept l (p.looked refl) b (q.looked (sym (same_number p q)))
+  larger_budget l (Spent next looked) b p q f = absurd f
+  larger_budget l (Refused r) b p q f = absurd f
 
-  pub search-settled : {budget : ℕ} (a b : Searched) → SearchOutcome t s start budget a → SearchOutcome t s start budget b → a ≡ b
-  search-settled (Found place form wrong looked) b p q = sym (larger-budget (omega arith) (Found place form wrong looked) b p q tt)
-  search-settled (Absent looked) b p q = sym (larger-budget (omega arith) (Absent looked) b p q tt)
-  search-settled (Spent next looked) b p q = sym (spent-kept (p.looked refl) b (q.looked (sym (same_number p q))))
-  search-settled (Refused r) b p q = sym (refused-kept r b (same_number p q))
+  pub search_settled : {budget : ℕ} (a b : Searched) → SearchOutcome t s start budget a → SearchOutcome t s start budget b → a ≡ b
+  search_settled (Found place form wrong looked) b p q = sym (larger_budget (omega arith) (Found place form wrong looked) b p q tt)
+  search_settled (Absent looked) b p q = sym (larger_budget (omega arith) (Absent looked) b p q tt)
+  search_settled (Spent next looked) b p q = sym (spent_kept (p.looked refl) b (q.looked (sym (same_number p q))))
+  search_settled (Refused r) b p q = sym (refused_kept r b (same_number p q))

@@ -3,14 +3,14 @@ use Rattle.std.proofs.Common.{◌≡◌, ℕ, suc, ◌+◌, ◌-◌, ◌*◌, �
 use lib.Bits.{bit_xor}
 use lib.Count.{ones}
 use Rattle.octets.specs.Bits.{bit_at}
-use Rattle.octets.proofs.Bits.{bit-of-octet}
+use Rattle.octets.proofs.Bits.{bit_of_octet}
 use Rattle.marker.specs.declared.Form.{Form}
 use Rattle.marker.specs.declared.Form.TheVariants.{True}
-use Rattle.marker.specs.Place.{wrongBits, nearer, fewer, formAt, fewestWrong, NoneFits, remaining}
+use Rattle.marker.specs.Place.{wrong_bits, nearer, fewer, form_at, fewest_wrong, NoneFits, remaining}
 use Rattle.marker.specs.Outcome.{FoundFirst, NoneLeft, BudgetSpent}
 use Rattle.marker.specs.Working.{word, base, Carried}
-use Rattle.marker.proofs.Forms.{named-at}
-use Rattle.marker.proofs.Word.{word_none, word_more, front-enters, word_split, word_small, word-wrong, bit-small}
+use Rattle.marker.proofs.Forms.{named_at}
+use Rattle.marker.proofs.Word.{word_none, word_more, front_enters, word_split, word_small, word-wrong, bit_small}
 
 -- Before bit q, `looked` places were looked at, all that have no bit from q on, and none fits.
 pub record Sofar (tolerance : ℕ) (s : List ℕ) (start budget q window looked : ℕ) : Type 0 where
@@ -29,8 +29,8 @@ pub record Stopped (tolerance : ℕ) (s : List ℕ) (start budget looked : ℕ) 
 
 -- ---- the window
 
-pub none-entered : (s : List ℕ) (start : ℕ) → Carried s start (base start) 0
-none-entered s start =
+pub none_entered : (s : List ℕ) (start : ℕ) → Carried s start (base start) 0
+none_entered s start =
     let none : base start - base start ≡ 0 = omega arith in
     rw (none, word_none s (base start))
 
@@ -39,7 +39,7 @@ pub front-entered : (s : List ℕ) (start i n : ℕ) {window next : ℕ} → get
     → next ≡ window * 2 ^ n % 2 ^ 32 + get_or s i 0 / 2 ^ (8 - n) → Carried s start (i * 8 + n) next
 front-entered s start i n octet h l old e =
     let more : i * 8 + n - base start ≡ i * 8 - base start + n = omega arith in
-    rw more (front-enters s (base start) (i * 8 - base start) i n octet h (omega arith) old e)
+    rw more (front_enters s (base start) (i * 8 - base start) i n octet h (omega arith) old e)
 
 pub moved_on : (s : List ℕ) (start : ℕ) {p q window : ℕ} → p ≡ q → Carried s start p window → Carried s start q window
 moved_on s start e old = old ∙ ap (λ (q : ℕ). word (q - base start) s (base start) % 2 ^ 32) e
@@ -50,12 +50,12 @@ pub entered : (s : List ℕ) (start i b : ℕ) {window next : ℕ} → b < 8 →
 entered s start i b {window} {next} h l old e =
     let more : i * 8 + (b + 1) - base start ≡ suc (i * 8 + b - base start) = omega arith in
     let here : base start + (i * 8 + b - base start) ≡ i * 8 + b = omega arith in
-    let e' : next ≡ window * 2 % 2 ^ 32 + bit_at s (i * 8 + b) = rw (bit-of-octet s i b h) e in
-    rw (more, word_more, here) (omega (arith, bit-small s (i * 8 + b)))
+    let e' : next ≡ window * 2 % 2 ^ 32 + bit_at s (i * 8 + b) = rw (bit_of_octet s i b h) e in
+    rw (more, word_more, here) (omega (arith, bit_small s (i * 8 + b)))
 
 -- From the first place on, the window holds the 32 bits of a place.
-window-here : (s : List ℕ) (start q : ℕ) {window : ℕ} → start + 32 ≤ q → Carried s start q window → window ≡ word 32 s (q - 32)
-window-here s start q {window} h old =
+window_here : (s : List ℕ) (start q : ℕ) {window : ℕ} → start + 32 ≤ q → Carried s start q window → window ≡ word 32 s (q - 32)
+window_here s start q {window} h old =
     let parted : q - base start ≡ q - 32 - base start + 32 = omega arith in
     let here : base start + (q - 32 - base start) ≡ q - 32 = omega arith in
     let split : word (q - base start) s (base start) ≡ word (q - 32 - base start) s (base start) * 2 ^ 32 + word 32 s (q - 32) =
@@ -77,17 +77,17 @@ module _ {tolerance : ℕ} {s : List ℕ} {start budget : ℕ} where
     carried_on = entered s start i b small (omega (arith, so.reached)) so.carried e
 
     -- The wrong bits of the window are those of the place that is looked at.
-    here-wrong : ones (bit_xor next 0x1ACFFC1D) ≡ wrongBits True s (start + looked)
-    here-wrong =
+    here_wrong : ones (bit_xor next 0x1ACFFC1D) ≡ wrong_bits True s (start + looked)
+    here_wrong =
         let place : i * 8 + (b + 1) - 32 ≡ start + looked = omega arith in
-        let held : next ≡ word 32 s (start + looked) = rw place at (window-here s start (i * 8 + (b + 1)) (omega arith) carried_on) in
+        let held : next ≡ word 32 s (start + looked) = rw place at (window_here s start (i * 8 + (b + 1)) (omega arith) carried_on) in
         rw held (word-wrong s (start + looked))
 
     module _ {form : Form} {wrong : ℕ} (left : looked ≡ budget → ⊥)
         (near : (form ≡ nearer (ones (bit_xor next 0x1ACFFC1D)) (32 - ones (bit_xor next 0x1ACFFC1D)))
         × (wrong ≡ fewer (ones (bit_xor next 0x1ACFFC1D)) (32 - ones (bit_xor next 0x1ACFFC1D)))) where
-      here : (form ≡ formAt s (start + looked)) × (wrong ≡ fewestWrong s (start + looked))
-      here = named-at s (start + looked) here-wrong near
+      here : (form ≡ form_at s (start + looked)) × (wrong ≡ fewest_wrong s (start + looked))
+      here = named_at s (start + looked) here_wrong near
 
       pub onward : tolerance < wrong → Sofar tolerance s start budget (i * 8 + (b + 1)) next (looked + 1)
       onward over = record {
@@ -102,7 +102,7 @@ module _ {tolerance : ℕ} {s : List ℕ} {start budget : ℕ} where
           none_more p l h f =
               ⊎_elim
               (λ (same : p ≡ start + looked).
-              let fits : fewestWrong s (start + looked) ≤ tolerance = rw same at f in omega (arith, here.1))
+              let fits : fewest_wrong s (start + looked) ≤ tolerance = rw same at f in omega (arith, here.1))
               (λ earlier. so.none p l earlier f)
               (eq-or-lt_of_le (omega arith))
 
@@ -118,12 +118,12 @@ module _ {tolerance : ℕ} {s : List ℕ} {start budget : ℕ} where
         affordable = omega arith;
       }
 
-  pub out-of-budget : (i b : ℕ) {window looked : ℕ} → b < 8 → Sofar tolerance s start budget (i * 8 + b) window looked → i < length s → looked ≡ budget → Stopped tolerance s start budget looked
-  out-of-budget i b small so inside all =
+  pub out_of_budget : (i b : ℕ) {window looked : ℕ} → b < 8 → Sofar tolerance s start budget (i * 8 + b) window looked → i < length s → looked ≡ budget → Stopped tolerance s start budget looked
+  out_of_budget i b small so inside all =
       record { none = so.none; within = so.within; bounded = omega arith; why = inl all }
 
-  pub none-there : 8 * length s ≤ start + 31 → NoneLeft tolerance s start budget 0
-  none-there past = record { none = λ p l place. absurd (omega arith); counted = omega arith; affordable = omega arith }
+  pub none_there : 8 * length s ≤ start + 31 → NoneLeft tolerance s start budget 0
+  none_there past = record { none = λ p l place. absurd (omega arith); counted = omega arith; affordable = omega arith }
 
   pub ended : {window looked : ℕ} → Sofar tolerance s start budget (length s * 8) window looked → Stopped tolerance s start budget looked
   ended so = record { none = so.none; within = so.within; bounded = omega arith; why = inr (omega arith) }

@@ -2,9 +2,9 @@
 -- document 02, (v)).
 use Rattle.std.specs.Prelude.{◌≡◌, ℕ, ◌+◌, ◌-◌, ◌≤◌, ◌⊎◌, List, length}
 use Rattle.refusals.specs.Order.{FirstOf}
-use Rattle.refusals.specs.Numbers.{parameterNumber, markerNumber, markerValue}
-use Rattle.refusals.specs.Calls.{markerOrder, searchOrder}
-use Rattle.marker.specs.Place.{formAt, fewestWrong, Place, Fits, NoneFits, remaining}
+use Rattle.refusals.specs.Numbers.{parameter_number, marker_number, marker_value}
+use Rattle.refusals.specs.Calls.{marker_order, search_order}
+use Rattle.marker.specs.Place.{form_at, fewest_wrong, Place, Fits, NoneFits, remaining}
 use Rattle.marker.specs.declared.Form.{Form}
 use Rattle.marker.specs.declared.Tested.{Tested}
 use Rattle.marker.specs.declared.Tested.TheVariants as tested
@@ -12,31 +12,31 @@ use Rattle.marker.specs.declared.Searched.{Searched}
 use Rattle.marker.specs.declared.Searched.TheVariants.{Found, Absent, Spent, Refused}
 
 -- The number of each answer, as document 01 gives it; 0 is accepted.
-abbrev pub testedNumber : Tested → ℕ
-testedNumber (tested.Accepted form wrong) = 0
-testedNumber (tested.Refused r) = markerNumber r
+abbrev pub tested_number : Tested → ℕ
+tested_number (tested.Accepted form wrong) = 0
+tested_number (tested.Refused r) = marker_number r
 
 -- Found, absent and spent are answers of a search that was accepted.
-abbrev pub searchedNumber : Searched → ℕ
-searchedNumber (Found place form wrong looked) = 0
-searchedNumber (Absent looked) = 0
-searchedNumber (Spent place looked) = 0
-searchedNumber (Refused p) = parameterNumber p
+abbrev pub searched_number : Searched → ℕ
+searched_number (Found place form wrong looked) = 0
+searched_number (Absent looked) = 0
+searched_number (Spent place looked) = 0
+searched_number (Refused p) = parameter_number p
 
 -- The value of the test's answer is the wrong bits; a refusal for a parameter or a length has none, and its value is 0.
-abbrev pub testedValue : Tested → ℕ
-testedValue (tested.Accepted form wrong) = wrong
-testedValue (tested.Refused r) = markerValue r
+abbrev pub tested_value : Tested → ℕ
+tested_value (tested.Accepted form wrong) = wrong
+tested_value (tested.Refused r) = marker_value r
 
 -- An accepted test names the form that is there.
 abbrev pub NamesForm : List ℕ → Tested → Type 0
-NamesForm octets (tested.Accepted form wrong) = form ≡ formAt octets 0
+NamesForm octets (tested.Accepted form wrong) = form ≡ form_at octets 0
 NamesForm octets (tested.Refused r) = Unit
 
 -- The test checks in its order, and answers the fewest wrong bits: accepted, those of the form that it names; refused by 9, the fewer of two counts that are both too large.
 pub record TestOutcome (tolerance : ℕ) (octets : List ℕ) (answer : Tested) : Type 0 where
-  pub number : FirstOf (markerOrder tolerance (length octets) (fewestWrong octets 0)) (testedNumber answer)
-  pub value : (testedNumber answer ≡ 0) ⊎ (testedNumber answer ≡ 9) → testedValue answer ≡ fewestWrong octets 0
+  pub number : FirstOf (marker_order tolerance (length octets) (fewest_wrong octets 0)) (tested_number answer)
+  pub value : (tested_number answer ≡ 0) ⊎ (tested_number answer ≡ 9) → tested_value answer ≡ fewest_wrong octets 0
   pub form : NamesForm octets answer
 
 -- Found: the first place from the start on that fits in either form, with the form and its wrong bits; it and all before it were looked at.
@@ -45,8 +45,8 @@ pub record FoundFirst (tolerance : ℕ) (stream : List ℕ) (start budget place 
   pub inside : Place stream place
   pub fits : Fits tolerance stream place
   pub first : NoneFits tolerance stream start place
-  pub named : form ≡ formAt stream place
-  pub bits : wrong ≡ fewestWrong stream place
+  pub named : form ≡ form_at stream place
+  pub bits : wrong ≡ fewest_wrong stream place
   pub counted : looked ≡ place - start + 1
   pub affordable : looked ≤ budget
 
@@ -72,5 +72,5 @@ Looked tolerance stream start budget (Refused p) = ⊥
 
 -- The search checks in its order, and then answers what it has seen.
 pub record SearchOutcome (tolerance : ℕ) (stream : List ℕ) (start budget : ℕ) (answer : Searched) : Type 0 where
-  pub number : FirstOf (searchOrder tolerance (length stream) start) (searchedNumber answer)
-  pub looked : searchedNumber answer ≡ 0 → Looked tolerance stream start budget answer
+  pub number : FirstOf (search_order tolerance (length stream) start) (searched_number answer)
+  pub looked : searched_number answer ≡ 0 → Looked tolerance stream start budget answer

@@ -10,18 +10,18 @@ abbrev pub marker : List ℕ
 marker = 0x1A ∷ 0xCF ∷ 0xFC ∷ 0x1D ∷ []
 
 -- Bit n of the marker in a form: the complement has each bit inverted.
-abbrev pub markerBit : Form → ℕ → ℕ
-markerBit True n = bit_at marker n
-markerBit Complement n = 1 - bit_at marker n
+abbrev pub marker_bit : Form → ℕ → ℕ
+marker_bit True n = bit_at marker n
+marker_bit Complement n = 1 - bit_at marker n
 
 -- How many of the first n bits from place p on differ from the marker's in a form (`differ` is 1 for two bits that differ, and 0 for equal ones).
-unfoldable pub wrongAmong : Form → ℕ → List ℕ → ℕ → ℕ
-wrongAmong form zero stream p = 0
-wrongAmong form (suc n) stream p = wrongAmong form n stream p + differ (bit_at stream (p + n)) (markerBit form n)
+unfoldable pub wrong_among : Form → ℕ → List ℕ → ℕ → ℕ
+wrong_among form zero stream p = 0
+wrong_among form (suc n) stream p = wrong_among form n stream p + differ (bit_at stream (p + n)) (marker_bit form n)
 
 -- The wrong bits of a form at a place are counted over the 32 bits from it on.
-abbrev pub wrongBits : Form → List ℕ → ℕ → ℕ
-wrongBits form stream p = wrongAmong form 32 stream p
+abbrev pub wrong_bits : Form → List ℕ → ℕ → ℕ
+wrong_bits form stream p = wrong_among form 32 stream p
 
 -- Of the true marker's wrong bits and the complement's, the fewer, and the form that has them; the true one if both have as many.
 unfoldable pub fewer : ℕ → ℕ → ℕ
@@ -31,11 +31,11 @@ unfoldable pub nearer : ℕ → ℕ → Form
 nearer asTrue asComplement = cond (nat_le asTrue asComplement) True Complement
 
 -- The fewest wrong bits at a place, and the form there, which has them.
-abbrev pub fewestWrong : List ℕ → ℕ → ℕ
-fewestWrong stream p = fewer (wrongBits True stream p) (wrongBits Complement stream p)
+abbrev pub fewest_wrong : List ℕ → ℕ → ℕ
+fewest_wrong stream p = fewer (wrong_bits True stream p) (wrong_bits Complement stream p)
 
-abbrev pub formAt : List ℕ → ℕ → Form
-formAt stream p = nearer (wrongBits True stream p) (wrongBits Complement stream p)
+abbrev pub form_at : List ℕ → ℕ → Form
+form_at stream p = nearer (wrong_bits True stream p) (wrong_bits Complement stream p)
 
 -- A place is a bit position from which on the stream has 32 bits.
 abbrev pub Place : List ℕ → ℕ → Type 0
@@ -43,7 +43,7 @@ Place stream p = p + 32 ≤ 8 * length stream
 
 -- A place fits, in one form or the other, if the fewest wrong bits there are within the tolerance; the test and the search ask the same.
 abbrev pub Fits : ℕ → List ℕ → ℕ → Type 0
-Fits tolerance stream p = fewestWrong stream p ≤ tolerance
+Fits tolerance stream p = fewest_wrong stream p ≤ tolerance
 
 -- No place from the start on and before the end fits.
 abbrev pub NoneFits : ℕ → List ℕ → ℕ → ℕ → Type 0

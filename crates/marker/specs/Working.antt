@@ -26,21 +26,21 @@ lanes zero f = 0
 lanes (suc n) f = f 0 + 256 * lanes n (λ b. f (suc b))
 
 -- Bits are counted from the start of the octet in which eight places begin, so that bit m is bit m - b of place b: 1 if it is one of the 32 there and wrong.
-unfoldable pub wrongBit : ℕ → ℕ → ℕ → ℕ
-wrongBit b m bit = cond (nat_le b m) (cond (nat_lt m (b + 32)) (differ bit (bit_at marker (m - b))) 0) 0
+unfoldable pub wrong_bit : ℕ → ℕ → ℕ → ℕ
+wrong_bit b m bit = cond (nat_le b m) (cond (nat_lt m (b + 32)) (differ bit (bit_at marker (m - b))) 0) 0
 
 -- How many bits are wrong for place b of n bits from bit m on, which are those of the number x.
-unfoldable pub wrongOf : ℕ → ℕ → ℕ → ℕ → ℕ
-wrongOf b m zero x = 0
-wrongOf b m (suc n) x = wrongOf b m n (x / 2) + wrongBit b (m + n) (x % 2)
+unfoldable pub wrong_of : ℕ → ℕ → ℕ → ℕ → ℕ
+wrong_of b m zero x = 0
+wrong_of b m (suc n) x = wrong_of b m n (x / 2) + wrong_bit b (m + n) (x % 2)
 
 -- What half octets add to the eight counts, sixteen values for each of the six halves of the three octets behind that in which the places begin; and octets, 256
 -- values for each of the three.
-unfoldable pub halfAdds : ℕ → ℕ
-halfAdds n = lanes 8 (λ b. wrongOf b (8 + 4 * (n / 16)) 4 (n % 16))
+unfoldable pub half_adds : ℕ → ℕ
+half_adds n = lanes 8 (λ b. wrong_of b (8 + 4 * (n / 16)) 4 (n % 16))
 
-unfoldable pub octetAdds : ℕ → ℕ
-octetAdds n = lanes 8 (λ b. wrongOf b (8 + 8 * (n / 256)) 8 (n % 256))
+unfoldable pub octet_adds : ℕ → ℕ
+octet_adds n = lanes 8 (λ b. wrong_of b (8 + 8 * (n / 256)) 8 (n % 256))
 
 -- The first elements of a list, which holds at most so many, are the values of f.
 pub record Filled (f : ℕ → ℕ) (most : ℕ) (list : List ℕ) (count : ℕ) : Type 0 where
@@ -49,12 +49,12 @@ pub record Filled (f : ℕ → ℕ) (most : ℕ) (list : List ℕ) (count : ℕ)
 
 -- Of the wrong bits of the true marker at place b of the eight that begin in octet i, those that lie in the three octets behind it, which each of the places has
 -- whole.
-unfoldable pub commonWrong : List ℕ → ℕ → ℕ → ℕ
-commonWrong stream i b = wrongOf b 8 8 (slice_index stream (i + 1)) + wrongOf b 16 8 (slice_index stream (i + 2)) + wrongOf b 24 8 (slice_index stream (i + 3))
+unfoldable pub common_wrong : List ℕ → ℕ → ℕ → ℕ
+common_wrong stream i b = wrong_of b 8 8 (slice_index stream (i + 1)) + wrong_of b 16 8 (slice_index stream (i + 2)) + wrong_of b 24 8 (slice_index stream (i + 3))
 
 -- Eight counts of wrong bits among 24: the top bits tell which counts, and which of their rests, are above the tolerance.
-unfoldable pub topsApart : ℕ → ℕ → ℕ
-topsApart tolerance counts = bit_xor (counts + (127 - tolerance) * 0x0101010101010101) (counts + (104 + tolerance) * 0x0101010101010101)
+unfoldable pub tops_apart : ℕ → ℕ → ℕ
+tops_apart tolerance counts = bit_xor (counts + (127 - tolerance) * 0x0101010101010101) (counts + (104 + tolerance) * 0x0101010101010101)
 
 -- The top bit of an octet is set only if its place, of the eight that begin in octet i, does not fit.
 abbrev pub TopsTell : ℕ → List ℕ → ℕ → ℕ → Type 0

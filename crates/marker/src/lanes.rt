@@ -1,7 +1,7 @@
 // The search by octets: the wrong bits of the eight places that begin in an octet are counted at once, one count in each octet of a number.
 ghost use Rattle.std.specs.Prelude.{◌≡◌, ◌+◌, ◌-◌, ◌*◌, ◌<◌, ◌≤◌, true, length};
 ghost use Rattle.marker.specs.Place.{NoneFits};
-ghost use Rattle.marker.specs.Working.{lanes, octetAdds, Filled, commonWrong, topsApart, TopsTell};
+ghost use Rattle.marker.specs.Working.{lanes, octet_adds, Filled, common_wrong, tops_apart, TopsTell};
 
 use crate::Searched;
 use crate::table::{added, octet_table};
@@ -15,8 +15,8 @@ const TOPS: u64 = 0x8080808080808080;
 
 // The eight counts over the three octets that all eight places have whole.
 fn common_at(table: &[u64; 768], stream: &[u8], i: usize) -> u64
-    requires { (i + 4 < length stream.now) × Filled octetAdds 768 table.now 768 }
-    ensures { result ≡ lanes 8 (commonWrong stream.now i) }
+    requires { (i + 4 < length stream.now) × Filled octet_adds 768 table.now 768 }
+    ensures { result ≡ lanes 8 (common_wrong stream.now i) }
 {
     added(table, 0, stream[i + 1]) + added(table, 1, stream[i + 2]) + added(table, 2, stream[i + 3])
 }
@@ -25,21 +25,21 @@ fn common_at(table: &[u64; 768], stream: &[u8], i: usize) -> u64
 // has it set in the other too. So the bits differ if neither form is near.
 fn tops_apart(counts: u64, tolerance: u32) -> u64
     requires { (counts ≤ 24 * 0x0101010101010101) × (tolerance ≤ 3) }
-    ensures { result ≡ topsApart tolerance counts }
+    ensures { result ≡ tops_apart tolerance counts }
 {
     let near = tolerance as u64;
     (counts + (127 - near) * ONES) ^ (counts + (104 + near) * ONES)
 }
 
 fn tops_at(table: &[u64; 768], tolerance: u32, stream: &[u8], i: usize) -> u64
-    requires { (tolerance ≤ 3) × (i + 4 < length stream.now) × Filled octetAdds 768 table.now 768 }
+    requires { (tolerance ≤ 3) × (i + 4 < length stream.now) × Filled octet_adds 768 table.now 768 }
     ensures { TopsTell tolerance stream.now i result }
 {
     tops_apart(common_at(table, stream, i), tolerance)
 }
 
 fn none_of_four(table: &[u64; 768], tolerance: u32, stream: &[u8], i: usize) -> bool
-    requires { (tolerance ≤ 3) × (i + 7 < length stream.now) × Filled octetAdds 768 table.now 768 }
+    requires { (tolerance ≤ 3) × (i + 7 < length stream.now) × Filled octet_adds 768 table.now 768 }
     ensures { result ≡ true → NoneFits tolerance stream.now (8 * i) (8 * (i + 4)) }
 {
     let a = tops_at(table, tolerance, stream, i);
@@ -51,7 +51,7 @@ fn none_of_four(table: &[u64; 768], tolerance: u32, stream: &[u8], i: usize) -> 
 
 // By fours: how far no place fits as the 24 bits tell.
 fn passed(table: &[u64; 768], tolerance: u32, stream: &[u8], first: usize, end: usize) -> usize
-    requires { (tolerance ≤ 3) × (first ≤ end) × (end + 4 ≤ length stream.now) × Filled octetAdds 768 table.now 768 }
+    requires { (tolerance ≤ 3) × (first ≤ end) × (end + 4 ≤ length stream.now) × Filled octet_adds 768 table.now 768 }
     ensures { (first ≤ result) × (result ≤ end) × NoneFits tolerance stream.now (8 * first) (8 * result) }
 {
     let mut i = first;

@@ -1,6 +1,6 @@
 // What each octet adds to the eight counts of the places that begin in one octet, of the three octets behind it: a table, built from what half octets add.
 ghost use Rattle.std.specs.Prelude.{◌≡◌, ◌+◌, ◌*◌, ◌<◌};
-ghost use Rattle.marker.specs.Working.{halfAdds, octetAdds, Filled};
+ghost use Rattle.marker.specs.Working.{half_adds, octet_adds, Filled};
 
 // What half octets add to the eight counts: sixteen values for each of the six halves of three octets, an octet's high half first.
 const HALVES: [u64; 96] = [
@@ -103,15 +103,15 @@ const HALVES: [u64; 96] = [
 ];
 
 fn half_list() -> [u64; 96]
-    ensures { Filled halfAdds 96 result 96 }
+    ensures { Filled half_adds 96 result 96 }
 {
     HALVES
 }
 
 // The sixteen octets with one high half; rows 16 k on are those of the k-th octet.
 fn fill_row(table: &mut [u64], halves: &[u64; 96], row: usize)
-    requires { (row < 48) × Filled halfAdds 96 halves.now 96 × Filled octetAdds 768 table.old (16 * row) }
-    ensures { Filled octetAdds 768 table.new (16 * row + 16) }
+    requires { (row < 48) × Filled half_adds 96 halves.now 96 × Filled octet_adds 768 table.old (16 * row) }
+    ensures { Filled octet_adds 768 table.new (16 * row + 16) }
 {
     let first = 32 * (row / 16);
     let high = halves[first + row % 16];
@@ -122,7 +122,7 @@ fn fill_row(table: &mut [u64], halves: &[u64; 96], row: usize)
 
 // What octets add, 256 values for each of five. Built in each call: 768 constants would be stored one by one.
 pub(crate) fn octet_table() -> [u64; 768]
-    ensures { Filled octetAdds 768 result 768 }
+    ensures { Filled octet_adds 768 result 768 }
 {
     let halves = half_list();
     let mut table = [0u64; 768];
@@ -134,8 +134,8 @@ pub(crate) fn octet_table() -> [u64; 768]
 
 // What one octet adds to the eight counts, the k-th of the three.
 pub(crate) fn added(table: &[u64; 768], k: usize, octet: u8) -> u64
-    requires { (k < 3) × Filled octetAdds 768 table.now 768 }
-    ensures { result ≡ octetAdds (256 * k + octet) }
+    requires { (k < 3) × Filled octet_adds 768 table.now 768 }
+    ensures { result ≡ octet_adds (256 * k + octet) }
 {
     table[256 * k + octet as usize]
 }

@@ -1,6 +1,6 @@
 // The marker test.
 ghost use Rattle.std.specs.Prelude.{◌≡◌, length};
-ghost use Rattle.marker.specs.Place.{formAt, fewestWrong};
+ghost use Rattle.marker.specs.Place.{form_at, fewest_wrong};
 ghost use Rattle.marker.specs.Outcome.{TestOutcome};
 
 use crate::Tested;
@@ -9,7 +9,7 @@ use refusals::{MarkerRefusal, Verdict};
 
 fn nearer_in(octets: &[u8]) -> Near
     requires { length octets.now ≡ 4 }
-    ensures { (result.form ≡ formAt octets.now 0) × (result.wrong ≡ fewestWrong octets.now 0) }
+    ensures { (result.form ≡ form_at octets.now 0) × (result.wrong ≡ fewest_wrong octets.now 0) }
 {
     let half = front_entered(front_entered(0, octets[0], 8), octets[1], 8);
     nearer_form(front_entered(front_entered(half, octets[2], 8), octets[3], 8))

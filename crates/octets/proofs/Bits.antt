@@ -8,8 +8,8 @@ use lib.ListN.{get_or}
 use Rattle.octets.specs.Bits.{bit_at}
 
 -- The place of bit b of octet i.
-pub bit-of-octet : (s : List ℕ) (i b : ℕ) → b < 8 → bit_at s (i * 8 + b) ≡ get_or s i 0 / 2 ^ (7 - b) % 2
-bit-of-octet s i b h =
+pub bit_of_octet : (s : List ℕ) (i b : ℕ) → b < 8 → bit_at s (i * 8 + b) ≡ get_or s i 0 / 2 ^ (7 - b) % 2
+bit_of_octet s i b h =
     let octet : (i * 8 + b) / 8 ≡ i = omega arith in
     let bit : (i * 8 + b) % 8 ≡ b = omega arith in
     rw (octet, bit)

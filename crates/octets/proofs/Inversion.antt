@@ -26,27 +26,27 @@ inverted-at zero (octet ∷ octets) h = refl
 inverted-at (suc i) (octet ∷ octets) h = inverted-at i octets (le_of_suc-le-suc h)
 
 -- Octets stay octets.
-pub inverted-small : (octets : List ℕ) (i : ℕ) → get_or (inverted octets) i 0 < 256
-inverted-small [] i = omega arith
-inverted-small (octet ∷ octets) zero = omega arith
-inverted-small (octet ∷ octets) (suc i) = inverted-small octets i
+pub inverted_small : (octets : List ℕ) (i : ℕ) → get_or (inverted octets) i 0 < 256
+inverted_small [] i = omega arith
+inverted_small (octet ∷ octets) zero = omega arith
+inverted_small (octet ∷ octets) (suc i) = inverted_small octets i
 
 -- Each bit of an octet is the other one.
-other-bit : (x k : ℕ) → x < 256 → k < 8 → (255 - x) / 2 ^ k % 2 ≡ 1 - x / 2 ^ k % 2
-other-bit x zero h l = omega arith
-other-bit x (suc zero) h l = omega arith
-other-bit x (suc (suc zero)) h l = omega arith
-other-bit x (suc (suc (suc zero))) h l = omega arith
-other-bit x (suc (suc (suc (suc zero)))) h l = omega arith
-other-bit x (suc (suc (suc (suc (suc zero))))) h l = omega arith
-other-bit x (suc (suc (suc (suc (suc (suc zero)))))) h l = omega arith
-other-bit x (suc (suc (suc (suc (suc (suc (suc zero))))))) h l = omega arith
-other-bit x (suc (suc (suc (suc (suc (suc (suc (suc k)))))))) h l = absurd (omega arith)
+other_bit : (x k : ℕ) → x < 256 → k < 8 → (255 - x) / 2 ^ k % 2 ≡ 1 - x / 2 ^ k % 2
+other_bit x zero h l = omega arith
+other_bit x (suc zero) h l = omega arith
+other_bit x (suc (suc zero)) h l = omega arith
+other_bit x (suc (suc (suc zero))) h l = omega arith
+other_bit x (suc (suc (suc (suc zero)))) h l = omega arith
+other_bit x (suc (suc (suc (suc (suc zero))))) h l = omega arith
+other_bit x (suc (suc (suc (suc (suc (suc zero)))))) h l = omega arith
+other_bit x (suc (suc (suc (suc (suc (suc (suc zero))))))) h l = omega arith
+other_bit x (suc (suc (suc (suc (suc (suc (suc (suc k)))))))) h l = absurd (omega arith)
 
 pub bit-inverted : (octets : List ℕ) → ((i : ℕ) → get_or octets i 0 < 256) → (p : ℕ) → p < 8 * length octets → bit_at (inverted octets) p ≡ 1 - bit_at octets p
 bit-inverted octets small p inside =
     let within : p / 8 < length octets = omega arith in
-    rw (inverted-at (p / 8) octets within) (other-bit (get_or octets (p / 8) 0) (7 - p % 8) (small (p / 8)) (omega arith))
+    rw (inverted-at (p / 8) octets within) (other_bit (get_or octets (p / 8) 0) (7 - p % 8) (small (p / 8)) (omega arith))
 
 -- Twice it gives octets back.
 pub inverted-twice : (octets : List ℕ) → ((i : ℕ) → get_or octets i 0 < 256) → inverted (inverted octets) ≡ octets

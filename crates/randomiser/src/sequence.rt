@@ -1,6 +1,6 @@
 // The register that gives the sequence, octet by octet.
 ghost use Rattle.std.specs.Prelude.{◌≡◌};
-ghost use Rattle.randomiser.specs.Sequence.{eightOn};
+ghost use Rattle.randomiser.specs.Sequence.{eight_on};
 ghost use Rattle.randomiser.specs.Outcome.{NextOutcome};
 
 // The next eight bits of the sequence, first in the top bit.
@@ -11,7 +11,7 @@ pub struct Register {
 
 // Eight bits at once: what the old bits add to the new ones, then what each new bit adds to those after it.
 fn step(bits: u8) -> u8
-    ensures { result ≡ eightOn bits }
+    ensures { result ≡ eight_on bits }
 {
     let old = bits ^ (bits << 3) ^ (bits << 5) ^ (bits << 7);
     old ^ (old >> 1) ^ (old >> 2) ^ (old >> 4) ^ (old >> 5)

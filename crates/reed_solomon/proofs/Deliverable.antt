@@ -9,24 +9,24 @@ use native.Mathlib.Decide.{dec_lt}
 use lib.ListN.{length, get_or}
 use lib.Seq.{ext_get_or}
 use Rattle.refusals.specs.Order.{FirstOf}
-use Rattle.refusals.specs.Sizes.{information, frameLength}
-use Rattle.refusals.specs.Calls.{decodeParameters, decodeOrder}
+use Rattle.refusals.specs.Sizes.{information, frame_length}
+use Rattle.refusals.specs.Calls.{decode_parameters, decode_order}
 use Rattle.refusals.specs.declared.WordRefusal.TheVariants.{Parameters, NoCodeword}
-use Rattle.refusals.proofs.Orders.{first-unique, first-accepts, first_passes}
-use Rattle.refusals.proofs.Legal.{decode-numbers}
-use Rattle.refusals.proofs.Verdicts.{parameter-nonzero}
+use Rattle.refusals.proofs.Orders.{first_unique, first_accepts, first_passes}
+use Rattle.refusals.proofs.Legal.{decode_numbers}
+use Rattle.refusals.proofs.Verdicts.{parameter_nonzero}
 use Rattle.codewords.specs.Words.{differing}
-use Rattle.codewords.proofs.Codewords.{good-unique, good-more-allowance}
+use Rattle.codewords.proofs.Codewords.{good_unique, good_more_allowance}
 use Rattle.reed_solomon.specs.declared.Decoded.{Decoded}
 use Rattle.reed_solomon.specs.declared.Decoded.TheVariants.{Delivered, Refused}
 use Rattle.encoding.specs.Blocks.{word_of, sum}
-use Rattle.reed_solomon.specs.Outcome.{Delivery, Lost, decodedNumber}
+use Rattle.reed_solomon.specs.Outcome.{Delivery, Lost, decoded_number}
 
 -- Only a delivery has number 0.
-pub delivered-is : (a : Decoded) → decodedNumber a ≡ 0 → a ≡ Delivered
-delivered-is Delivered z = refl
-delivered-is (Refused (Parameters p)) z = absurd (parameter-nonzero p z)
-delivered-is (Refused (NoCodeword w)) z = absurd (omega arith)
+pub delivered_is : (a : Decoded) → decoded_number a ≡ 0 → a ≡ Delivered
+delivered_is Delivered z = refl
+delivered_is (Refused (Parameters p)) z = absurd (parameter_nonzero p z)
+delivered_is (Refused (NoCodeword w)) z = absurd (omega arith)
 
 -- Some word is lost.
 abbrev pub SomeLost : ℕ → ℕ → ℕ → ℕ → List ℕ → Type 0
@@ -34,23 +34,23 @@ SomeLost e i q s block = (w : ℕ) × (w < i) × Lost e i q s block w
 
 module _ (e i q s : ℕ) (block before : List ℕ) where
   abbrev pub Passed : Type 0
-  Passed = FirstOf (decodeParameters e i q s (length block) (length before)) 0
+  Passed = FirstOf (decode_parameters e i q s (length block) (length before)) 0
 
   abbrev pub Order : ℕ → Type 0
-  Order n = FirstOf (decodeOrder e i q s (length block) (length before) (SomeLost e i q s block)) n
+  Order n = FirstOf (decode_order e i q s (length block) (length before) (SomeLost e i q s block)) n
 
   -- once the parameters have passed, the words decide
   pub all_found : Passed → (SomeLost e i q s block → ⊥) → Order 0
-  all_found f none = first_passes (decodeParameters e i q s (length block) (length before)) 0 (decode-numbers e i q s (length block) (length before)) f (inr (none, refl))
+  all_found f none = first_passes (decode_parameters e i q s (length block) (length before)) 0 (decode_numbers e i q s (length block) (length before)) f (inr (none, refl))
 
-  pub some-lost : Passed → SomeLost e i q s block → Order 10
-  some-lost f l = first_passes (decodeParameters e i q s (length block) (length before)) 10 (decode-numbers e i q s (length block) (length before)) f (inl (l, refl))
+  pub some_lost : Passed → SomeLost e i q s block → Order 10
+  some_lost f l = first_passes (decode_parameters e i q s (length block) (length before)) 10 (decode_numbers e i q s (length block) (length before)) f (inl (l, refl))
 
-  pub accepted-passed : Order 0 → Passed
-  accepted-passed f = first-accepts _ (decodeParameters e i q s (length block) (length before)) (decode-numbers e i q s (length block) (length before)) f
+  pub accepted_passed : Order 0 → Passed
+  accepted_passed f = first_accepts _ (decode_parameters e i q s (length block) (length before)) (decode_numbers e i q s (length block) (length before)) f
 
   pub number_is : (n m : ℕ) → Order n → Order m → n ≡ m
-  number_is n m = first-unique (decodeOrder e i q s (length block) (length before) (SomeLost e i q s block)) n m
+  number_is n m = first_unique (decode_order e i q s (length block) (length before) (SomeLost e i q s block)) n m
 
 -- ---- two deliveries of one block, with two allowances, are one
 
@@ -58,10 +58,10 @@ module _ (e i q s t : ℕ) (block : List ℕ) (strong : e ≤ 128) (order : s �
   module _ (f c : List ℕ) (m : ℕ) (g d : List ℕ) (n : ℕ) (D : Delivery e i q s block f c m) (E : Delivery e i q t block g d n) where
     same-codeword : (w : ℕ) → w < i → D.codewords w ≡ E.codewords w
     same-codeword w h =
-        good-unique e q t (word_of i q block w) (D.codewords w) (E.codewords w) strong small (good-more-allowance e q s t (word_of i q block w) (D.codewords w) order (D.good w h)) (E.good w h)
+        good_unique e q t (word_of i q block w) (D.codewords w) (E.codewords w) strong small (good_more_allowance e q s t (word_of i q block w) (D.codewords w) order (D.good w h)) (E.good w h)
 
-    pub same-counts : length c ≡ 8 → length d ≡ 8 → c ≡ d
-    same-counts l k =
+    pub same_counts : length c ≡ 8 → length d ≡ 8 → c ≡ d
+    same_counts l k =
         ext_get_or 0 c d (l ∙ sym k)
         (λ w h. elim (dec_lt w i) [
           | yes y ↦ D.count w y ∙ ap (differing (word_of i q block w)) (same-codeword w y) ∙ sym (E.count w y)
@@ -69,9 +69,9 @@ module _ (e i q s t : ℕ) (block : List ℕ) (strong : e ≤ 128) (order : s �
         ])
 
     pub same_total : length c ≡ 8 → length d ≡ 8 → m ≡ n
-    same_total l k = D.summed ∙ ap sum (same-counts l k) ∙ sym E.summed
+    same_total l k = D.summed ∙ ap sum (same_counts l k) ∙ sym E.summed
 
-    pub same-frame : length f ≡ frameLength e i q → length g ≡ frameLength e i q → f ≡ g
+    pub same-frame : length f ≡ frame_length e i q → length g ≡ frame_length e i q → f ≡ g
     same-frame l k =
         ext_get_or 0 f g (l ∙ sym k)
         (λ p h. let e₁ : p / i * i + p % i ≡ p = div-add-mod' p i in

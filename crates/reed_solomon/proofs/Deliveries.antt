@@ -8,32 +8,32 @@ use native.Mathlib.Omega.{arith}
 use native.Mathlib.Decide.{dec_lt}
 use lib.ListN.{length, take, drop, get_or, replicate, length-replicate, get_or-append}
 use lib.Seq.{take_at, get_or-take, length-take-le}
-use Rattle.octets.specs.Copies.{copiedOver}
-use Rattle.octets.proofs.Laws.{copied-fitting, copied-length}
+use Rattle.octets.specs.Copies.{copied_over}
+use Rattle.octets.proofs.Laws.{copied_fitting, copied_length}
 use Rattle.refusals.specs.Order.{OneOf, FirstOf}
-use Rattle.refusals.specs.Sizes.{strengths, information, frameLength, blockLength}
-use Rattle.refusals.specs.Numbers.{verdictNumber}
-use Rattle.refusals.specs.Calls.{decodeParameters}
+use Rattle.refusals.specs.Sizes.{strengths, information, frame_length, block_length}
+use Rattle.refusals.specs.Numbers.{verdict_number}
+use Rattle.refusals.specs.Calls.{decode_parameters}
 use Rattle.refusals.specs.declared.Parameter.{Parameter}
 use Rattle.refusals.specs.declared.Verdict.{Verdict}
 use Rattle.refusals.specs.declared.Verdict.TheVariants as verdict
 use Rattle.refusals.specs.declared.WordRefusal.{WordRefusal}
 use Rattle.refusals.specs.declared.WordRefusal.TheVariants.{Parameters, NoCodeword}
-use Rattle.refusals.proofs.Orders.{Clear, accepted-clear, not-different, first_passes}
-use Rattle.refusals.proofs.Verdicts.{parameter-nonzero, parameter-not-ten, stopped}
-use Rattle.refusals.proofs.Legal.{LegalWords, legal-words, decode-numbers}
+use Rattle.refusals.proofs.Orders.{Clear, accepted_clear, not_different, first_passes}
+use Rattle.refusals.proofs.Verdicts.{parameter_nonzero, parameter_not_ten, stopped}
+use Rattle.refusals.proofs.Legal.{LegalWords, legal_words, decode_numbers}
 use Rattle.words.proofs.Arrays.{zero-at}
 use Rattle.codewords.specs.Words.{Good, differing}
-use Rattle.codewords.proofs.LineWords.{differing-self}
+use Rattle.codewords.proofs.LineWords.{differing_self}
 use Rattle.reed_solomon.specs.declared.Decoded.{Decoded}
 use Rattle.reed_solomon.specs.declared.Decoded.TheVariants.{Delivered, Refused}
-use Rattle.encoding.specs.Blocks.{sentFrom, word_of, sum}
+use Rattle.encoding.specs.Blocks.{sent_from, word_of, sum}
 use Rattle.encoding.specs.Rows.{no_rows, RowsOn}
 use Rattle.reed_solomon.specs.Outcome.{Delivery, LowestLost, DecodeOutcome}
 use Rattle.reed_solomon.specs.DecoderWorking.{Standing, WordRows, Fitting, HasCodeword, Repaired}
 use Rattle.encoding.proofs.Interleaving.{place-below, word_at}
-use Rattle.encoding.proofs.CodedBlocks.{checks-rows}
-use Rattle.reed_solomon.proofs.StandingChecks.{word_rows, standing-coded}
+use Rattle.encoding.proofs.CodedBlocks.{checks_rows}
+use Rattle.reed_solomon.proofs.StandingChecks.{word_rows, standing_coded}
 use Rattle.reed_solomon.proofs.WordRepairs.{sum_zeros}
 
 -- ---- what passed parameters say
@@ -41,28 +41,28 @@ use Rattle.reed_solomon.proofs.WordRepairs.{sum_zeros}
 pub record LegalBlock (e i q s block frame : ℕ) : Type 0 where
   pub words : LegalWords e i q
   pub allowance : s ≤ e
-  pub received : block ≡ blockLength i q
-  pub room : frame ≡ frameLength e i q
+  pub received : block ≡ block_length i q
+  pub room : frame ≡ frame_length e i q
 
-pub legal-block : (e i q s block frame : ℕ) → FirstOf (decodeParameters e i q s block frame) 0 → LegalBlock e i q s block frame
-legal-block e i q s block frame f =
-    let clear : Clear (decodeParameters e i q s block frame) = accepted-clear (decodeParameters e i q s block frame) (decode-numbers e i q s block frame) f in
+pub legal_block : (e i q s block frame : ℕ) → FirstOf (decode_parameters e i q s block frame) 0 → LegalBlock e i q s block frame
+legal_block e i q s block frame f =
+    let clear : Clear (decode_parameters e i q s block frame) = accepted_clear (decode_parameters e i q s block frame) (decode_numbers e i q s block frame) f in
     record {
-      words = legal-words e i q (clear.0, (clear.1.0, (clear.1.1.0, tt)));
+      words = legal_words e i q (clear.0, (clear.1.0, (clear.1.1.0, tt)));
       allowance = omega (arith, clear.1.1.1.0);
-      received = not-different block (blockLength i q) clear.1.1.1.1.0;
-      room = not-different frame (frameLength e i q) clear.1.1.1.1.1.0;
+      received = not_different block (block_length i q) clear.1.1.1.1.0;
+      room = not_different frame (frame_length e i q) clear.1.1.1.1.1.0;
     }
 
-pub frame-most : (e i q : ℕ) → LegalWords e i q → frameLength e i q ≤ 2040
-frame-most e i q L = mul-le-mul most L.deep
+pub frame_most : (e i q : ℕ) → LegalWords e i q → frame_length e i q ≤ 2040
+frame_most e i q L = mul-le-mul most L.deep
   where
     most : information e - q ≤ 255
     most = omega arith
 
-pub fitting : (e i q s : ℕ) (block : List ℕ) (frame : ℕ) → FirstOf (decodeParameters e i q s (length block) frame) 0 → Fitting e i q s block
+pub fitting : (e i q s : ℕ) (block : List ℕ) (frame : ℕ) → FirstOf (decode_parameters e i q s (length block) frame) 0 → Fitting e i q s block
 fitting e i q s block frame f =
-    let L : LegalBlock e i q s (length block) frame = legal-block e i q s (length block) frame f in
+    let L : LegalBlock e i q s (length block) frame = legal_block e i q s (length block) frame f in
     record {
       strength = L.words.strength;
       allowance = L.allowance;
@@ -73,26 +73,26 @@ fitting e i q s block frame f =
     }
 
 -- the rows of a block's own front fit behind it
-pub coded-room : (e i q s block frame : ℕ) → FirstOf (decodeParameters e i q s block frame) 0 → (0 < i) × (i ≤ 8) × (frame ≤ block) × (block ≤ frame + 32 * i) × (block ≤ 2040)
-coded-room e i q s block frame f =
-    let L : LegalBlock e i q s block frame = legal-block e i q s block frame f in
-    let R : (0 < i) × (i ≤ 8) × (frame ≤ block) × (block ≤ frame + 32 * i) = checks-rows e i q frame block (record { words = L.words; input = L.room; output = L.received }) in
+pub coded_room : (e i q s block frame : ℕ) → FirstOf (decode_parameters e i q s block frame) 0 → (0 < i) × (i ≤ 8) × (frame ≤ block) × (block ≤ frame + 32 * i) × (block ≤ 2040)
+coded_room e i q s block frame f =
+    let L : LegalBlock e i q s block frame = legal_block e i q s block frame f in
+    let R : (0 < i) × (i ≤ 8) × (frame ≤ block) × (block ≤ frame + 32 * i) = checks_rows e i q frame block (record { words = L.words; input = L.room; output = L.received }) in
     (R.0, R.1, R.2, R.3, omega (arith, L.received, mul-le-mul (most q) L.words.deep))
   where
     most : (q : ℕ) → 255 - q ≤ 255
     most q = omega arith
 
 -- what they are asked to be: their words' checks
-pub enter-legal : (e i q s block frame : ℕ) → FirstOf (decodeParameters e i q s block frame) 0 → OneOf strengths e × (0 < i) × (i ≤ 8)
-enter-legal e i q s block frame f =
-    let L : LegalBlock e i q s block frame = legal-block e i q s block frame f in
+pub enter_legal : (e i q s block frame : ℕ) → FirstOf (decode_parameters e i q s block frame) 0 → OneOf strengths e × (0 < i) × (i ≤ 8)
+enter_legal e i q s block frame f =
+    let L : LegalBlock e i q s block frame = legal_block e i q s block frame f in
     (L.words.strength, L.words.some, L.words.deep)
 
-pub checks-of-words : (e i q s : ℕ) (block frame : List ℕ) (rows : List (List ℕ)) → FirstOf (decodeParameters e i q s (length block) (length frame)) 0 → ((m : ℕ) → get_or block m 0 < 256)
+pub checks_of_words : (e i q s : ℕ) (block frame : List ℕ) (rows : List (List ℕ)) → FirstOf (decode_parameters e i q s (length block) (length frame)) 0 → ((m : ℕ) → get_or block m 0 < 256)
     → RowsOn e i 0 no_rows (take (length frame) block) rows → WordRows e i q block rows
-checks-of-words e i q s block frame rows f octets R =
-    let L : LegalBlock e i q s (length block) (length frame) = legal-block e i q s (length block) (length frame) f in
-    word_rows e i q block (length frame) rows L.words L.room L.received (coded-room e i q s (length block) (length frame) f).2 R octets
+checks_of_words e i q s block frame rows f octets R =
+    let L : LegalBlock e i q s (length block) (length frame) = legal_block e i q s (length block) (length frame) f in
+    word_rows e i q block (length frame) rows L.words L.room L.received (coded_room e i q s (length block) (length frame) f).2 R octets
 
 -- ---- the answers
 
@@ -116,25 +116,25 @@ module _ (e i q s : ℕ) (block frame : List ℕ) where
       (subst (λ (x : List ℕ). DecodeOutcome e i q s block frame (Refused r) x 0 after) (sym same.2)
       (subst (DecodeOutcome e i q s block frame (Refused r) (replicate 8 0) 0) (sym untouched) O)))
 
-  pub refuses-parameter : (a : Decoded) (c : List ℕ) (t : ℕ) (after : List ℕ) (v : Verdict) (p : Parameter) → v ≡ verdict.Refused p
-      → FirstOf (decodeParameters e i q s (length block) (length frame)) (verdictNumber v) → Refusal (Parameters p) a c t → after ≡ frame → DecodeOutcome e i q s block frame a c t after
-  refuses-parameter a c t after v p is f same untouched =
+  pub refuses_parameter : (a : Decoded) (c : List ℕ) (t : ℕ) (after : List ℕ) (v : Verdict) (p : Parameter) → v ≡ verdict.Refused p
+      → FirstOf (decode_parameters e i q s (length block) (length frame)) (verdict_number v) → Refusal (Parameters p) a c t → after ≡ frame → DecodeOutcome e i q s block frame a c t after
+  refuses_parameter a c t after v p is f same untouched =
       refused_as (Parameters p) a c t after same untouched
       record {
-        number = stopped _ (decodeParameters e i q s (length block) (length frame)) v p is f;
-        word = λ ten. absurd (parameter-not-ten p ten);
+        number = stopped _ (decode_parameters e i q s (length block) (length frame)) v p is f;
+        word = λ ten. absurd (parameter_not_ten p ten);
         size = (refl, refl);
         refused = λ n. (refl, refl, refl);
-        delivered = λ z. absurd (parameter-nonzero p z);
+        delivered = λ z. absurd (parameter_nonzero p z);
       }
 
-  module _ (f : FirstOf (decodeParameters e i q s (length block) (length frame)) 0) where
-    pub refuses-word : (a : Decoded) (c : List ℕ) (t : ℕ) (after : List ℕ) (w : ℕ) → Refusal (NoCodeword w) a c t → after ≡ frame → LowestLost e i q s block w
+  module _ (f : FirstOf (decode_parameters e i q s (length block) (length frame)) 0) where
+    pub refuses_word : (a : Decoded) (c : List ℕ) (t : ℕ) (after : List ℕ) (w : ℕ) → Refusal (NoCodeword w) a c t → after ≡ frame → LowestLost e i q s block w
         → DecodeOutcome e i q s block frame a c t after
-    refuses-word a c t after w same untouched lowest =
+    refuses_word a c t after w same untouched lowest =
         refused_as (NoCodeword w) a c t after same untouched
         record {
-          number = first_passes (decodeParameters e i q s (length block) (length frame)) 10 (decode-numbers e i q s (length block) (length frame)) f
+          number = first_passes (decode_parameters e i q s (length block) (length frame)) 10 (decode_numbers e i q s (length block) (length frame)) f
               (inl ((w, lowest.within, lowest.lost), refl));
           word = λ ten. lowest;
           size = (refl, refl);
@@ -143,17 +143,17 @@ module _ (e i q s : ℕ) (block frame : List ℕ) where
         }
 
   module _ (words : ℕ) (counts : List ℕ) (total len : ℕ) (repaired : List ℕ) (R : Repaired e i q s block words counts total len repaired) where
-    pub lowest-lost : words < i → LowestLost e i q s block words
-    lowest-lost h = record { within = h; lost = R.stopped h; before = λ v l. ((R.sofar.each v l).codeword, (R.sofar.each v l).good) }
+    pub lowest_lost : words < i → LowestLost e i q s block words
+    lowest_lost h = record { within = h; lost = R.stopped h; before = λ v l. ((R.sofar.each v l).codeword, (R.sofar.each v l).good) }
 
-    pub frame-within : FirstOf (decodeParameters e i q s (length block) (length frame)) 0 → len ≡ 2040 → length frame ≤ length repaired
-    frame-within f room =
-        let L : LegalBlock e i q s (length block) (length frame) = legal-block e i q s (length block) (length frame) f in
-        omega (arith, R.size, L.room, frame-most e i q L.words)
+    pub frame_within : FirstOf (decode_parameters e i q s (length block) (length frame)) 0 → len ≡ 2040 → length frame ≤ length repaired
+    frame_within f room =
+        let L : LegalBlock e i q s (length block) (length frame) = legal_block e i q s (length block) (length frame) f in
+        omega (arith, R.size, L.room, frame_most e i q L.words)
 
     -- every word is good, and the list holds them repaired
-    pub words-delivered : i ≤ words → Delivery e i q s block repaired counts (sum counts)
-    words-delivered h =
+    pub words_delivered : i ≤ words → Delivery e i q s block repaired counts (sum counts)
+    words_delivered h =
         record {
           codewords = λ w. (chosen w).0;
           good = λ w l. ((chosen w).1 l).0;
@@ -171,29 +171,29 @@ module _ (e i q s : ℕ) (block frame : List ℕ) where
             × ((k : ℕ) → k < information e - q → get_or repaired (k * i + w) 0 ≡ get_or c (q + k) 0) × (get_or counts w 0 ≡ differing (word_of i q block w) c))
         chosen w =
             elim (dec_lt w i) [
-              | yes l ↦ ((each w l).codeword, λ m. ((each w l).good, (each w l).symbols, (each w l).count-is))
+              | yes l ↦ ((each w l).codeword, λ m. ((each w l).good, (each w l).symbols, (each w l).count_is))
               | no n ↦ ([], λ l. absurd (n l))
             ]
 
-    abbrev pub all-good : i ≤ words → len ≡ 2040 → AllGood e i q s block counts
-    all-good h room = record { repaired = repaired; delivery = words-delivered h; room = R.size ∙ room; size = R.sofar.size }
+    abbrev pub all_good : i ≤ words → len ≡ 2040 → AllGood e i q s block counts
+    all_good h room = record { repaired = repaired; delivery = words_delivered h; room = R.size ∙ room; size = R.sofar.size }
 
   -- a list that holds every word's information symbols is copied out
-  module _ (f : FirstOf (decodeParameters e i q s (length block) (length frame)) 0) (repaired counts : List ℕ) (total : ℕ) (A : Delivery e i q s block repaired counts total)
-      (enough : length frame ≤ length repaired) (eight : length counts ≡ 8) (after : List ℕ) (is : after ≡ copiedOver (take (length frame) repaired) frame) where
+  module _ (f : FirstOf (decode_parameters e i q s (length block) (length frame)) 0) (repaired counts : List ℕ) (total : ℕ) (A : Delivery e i q s block repaired counts total)
+      (enough : length frame ≤ length repaired) (eight : length counts ≡ 8) (after : List ℕ) (is : after ≡ copied_over (take (length frame) repaired) frame) where
     L : LegalBlock e i q s (length block) (length frame)
-    L = legal-block e i q s (length block) (length frame) f
+    L = legal_block e i q s (length block) (length frame) f
 
     abbrev front : List ℕ
     front = take (length frame) repaired
 
-    front-size : length front ≡ length frame
-    front-size = length-take-le (length frame) repaired enough
+    front_size : length front ≡ length frame
+    front_size = length-take-le (length frame) repaired enough
 
     at : (n : ℕ) → n < length frame → get_or after n 0 ≡ get_or repaired n 0
     at n l =
-        ap (λ (list : List ℕ). get_or list n 0) (is ∙ copied-fitting front frame (omega (arith, front-size)))
-        ∙ get_or-append front (drop (length front) frame) 0 n (omega (arith, front-size)) ∙ get_or-take (length frame) repaired n 0 l
+        ap (λ (list : List ℕ). get_or list n 0) (is ∙ copied_fitting front frame (omega (arith, front_size)))
+        ∙ get_or-append front (drop (length front) frame) 0 n (omega (arith, front_size)) ∙ get_or-take (length frame) repaired n 0 l
 
     -- the frame is the front of that list
     D : Delivery e i q s block after counts total
@@ -206,54 +206,54 @@ module _ (e i q s : ℕ) (block frame : List ℕ) where
       summed = A.summed;
     }
 
-    copied-out : DecodeOutcome e i q s block frame Delivered counts total after
-    copied-out = record {
-      number = first_passes (decodeParameters e i q s (length block) (length frame)) 0 (decode-numbers e i q s (length block) (length frame)) f
+    copied_out : DecodeOutcome e i q s block frame Delivered counts total after
+    copied_out = record {
+      number = first_passes (decode_parameters e i q s (length block) (length frame)) 0 (decode_numbers e i q s (length block) (length frame)) f
           (inr ((λ l. l.2 (D.codewords l.0) (D.good l.0 l.1)), refl));
       word = λ ten. absurd (omega arith);
-      size = (ap length is ∙ copied-length front frame, eight);
+      size = (ap length is ∙ copied_length front frame, eight);
       refused = λ n. absurd (n refl);
       delivered = λ z. D;
     }
 
-  pub delivers : FirstOf (decodeParameters e i q s (length block) (length frame)) 0 → (counts : List ℕ) (total : ℕ) (after : List ℕ) (A : AllGood e i q s block counts)
-      → total ≡ sum counts → after ≡ copiedOver (take (length frame) A.repaired) frame → DecodeOutcome e i q s block frame Delivered counts total after
+  pub delivers : FirstOf (decode_parameters e i q s (length block) (length frame)) 0 → (counts : List ℕ) (total : ℕ) (after : List ℕ) (A : AllGood e i q s block counts)
+      → total ≡ sum counts → after ≡ copied_over (take (length frame) A.repaired) frame → DecodeOutcome e i q s block frame Delivered counts total after
   delivers f counts total after A summed is =
-      let L' : LegalBlock e i q s (length block) (length frame) = legal-block e i q s (length block) (length frame) f in
-      copied-out f A.repaired counts total (subst (Delivery e i q s block A.repaired counts) (sym summed) A.delivery)
-      (omega (arith, A.room, L'.room, frame-most e i q L'.words)) A.size after is
+      let L' : LegalBlock e i q s (length block) (length frame) = legal_block e i q s (length block) (length frame) f in
+      copied_out f A.repaired counts total (subst (Delivery e i q s block A.repaired counts) (sym summed) A.delivery)
+      (omega (arith, A.room, L'.room, frame_most e i q L'.words)) A.size after is
 
 -- ---- a block that is coded as it stands is delivered as it stands
 
-module _ (e i q s : ℕ) (block frame : List ℕ) (f : FirstOf (decodeParameters e i q s (length block) (length frame)) 0) (octets : (m : ℕ) → get_or block m 0 < 256)
+module _ (e i q s : ℕ) (block frame : List ℕ) (f : FirstOf (decode_parameters e i q s (length block) (length frame)) 0) (octets : (m : ℕ) → get_or block m 0 < 256)
     (rows : List (List ℕ)) (R : RowsOn e i 0 no_rows (take (length frame) block) rows) (S : Standing rows i (length frame) block) where
   L' : LegalBlock e i q s (length block) (length frame)
-  L' = legal-block e i q s (length block) (length frame) f
+  L' = legal_block e i q s (length block) (length frame) f
 
-  pub standing-good : (w : ℕ) → w < i → Good e q s (word_of i q block w) (word_of i q block w)
-  standing-good w l =
+  pub standing_good : (w : ℕ) → w < i → Good e q s (word_of i q block w) (word_of i q block w)
+  standing_good w l =
       record {
-        code = standing-coded e i q block (length frame) rows L'.words L'.room L'.received (coded-room e i q s (length block) (length frame) f).2 R octets S w l;
-        fill = take_at (replicate q 0) (sentFrom i block w 0 (255 - q)) q (length-replicate {A = ℕ} q 0);
-        close = omega (arith, differing-self (word_of i q block w));
+        code = standing_coded e i q block (length frame) rows L'.words L'.room L'.received (coded_room e i q s (length block) (length frame) f).2 R octets S w l;
+        fill = take_at (replicate q 0) (sent_from i block w 0 (255 - q)) q (length-replicate {A = ℕ} q 0);
+        close = omega (arith, differing_self (word_of i q block w));
       }
 
   -- every word is its own codeword
-  as-it-stands : Delivery e i q s block block (replicate 8 0) 0
-  as-it-stands =
+  as_it_stands : Delivery e i q s block block (replicate 8 0) 0
+  as_it_stands =
       record {
         codewords = word_of i q block;
-        good = standing-good;
+        good = standing_good;
         symbols = λ k w m l. sym (word_at i q block w k (omega arith));
-        count = λ w l. zero-at 8 w ∙ sym (differing-self (word_of i q block w));
+        count = λ w l. zero-at 8 w ∙ sym (differing_self (word_of i q block w));
         beyond = λ w l. zero-at 8 w;
         summed = sum_zeros 8;
       }
 
-  pub delivers-coded : (a : Decoded) (c : List ℕ) (t : ℕ) (after : List ℕ) → (a ≡ Delivered) × (t ≡ 0) × (c ≡ replicate 8 0) → after ≡ copiedOver (take (length frame) block) frame
+  pub delivers_coded : (a : Decoded) (c : List ℕ) (t : ℕ) (after : List ℕ) → (a ≡ Delivered) × (t ≡ 0) × (c ≡ replicate 8 0) → after ≡ copied_over (take (length frame) block) frame
       → DecodeOutcome e i q s block frame a c t after
-  delivers-coded a c t after same is =
+  delivers_coded a c t after same is =
       subst (λ (x : Decoded). DecodeOutcome e i q s block frame x c t after) (sym same.0)
       (subst (λ (x : ℕ). DecodeOutcome e i q s block frame Delivered c x after) (sym same.1)
       (subst (λ (x : List ℕ). DecodeOutcome e i q s block frame Delivered x 0 after) (sym same.2)
-      (copied-out e i q s block frame f block (replicate 8 0) 0 as-it-stands (coded-room e i q s (length block) (length frame) f).2 refl after is)))
+      (copied_out e i q s block frame f block (replicate 8 0) 0 as_it_stands (coded_room e i q s (length block) (length frame) f).2 refl after is)))

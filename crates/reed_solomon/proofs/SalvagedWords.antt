@@ -11,26 +11,26 @@ use borrow.Author.Tests.{not-true, not-false}
 use lib.Bits.{bit_xor}
 use lib.ListN.{length, get_or, set, replicate, length-set}
 use lib.Seq.{get_or-set_same, get_or-set_other}
-use Rattle.refusals.proofs.Legal.{strength-bounds}
+use Rattle.refusals.proofs.Legal.{strength_bounds}
 use Rattle.field.specs.Field.{◌⊕◌}
-use Rattle.field.proofs.Sum.{⊕-is, ⊕-zero}
-use Rattle.codewords.specs.Words.{withFill, Good, differing}
+use Rattle.field.proofs.Sum.{⊕_is, ⊕-zero}
+use Rattle.codewords.specs.Words.{with_fill, Good, differing}
 use Rattle.words.specs.Outcome.{repaired, WordOutcome}
 use Rattle.words.proofs.Arrays.{zero-at}
-use Rattle.encoding.specs.Blocks.{sentFrom}
+use Rattle.encoding.specs.Blocks.{sent_from}
 use Rattle.reed_solomon.specs.DecoderWorking.{Put, Fitting}
 use Rattle.reed_solomon.specs.Salvaging.{WordSalvaged}
 use Rattle.reed_solomon.specs.SalvageWorking.{WordPut, WordsPut, MarksSet}
-use Rattle.encoding.proofs.Interleaving.{sent-length, sent_is, sent-symbol, sent-same}
+use Rattle.encoding.proofs.Interleaving.{sent-length, sent_is, sent_symbol, sent-same}
 use Rattle.reed_solomon.proofs.WordRepairs.{repaired-at, fill_is, lost, few}
 
 -- ---- the symbols of a repaired word
 
-repaired-size : (sent errors : List ℕ) → length (repaired sent errors) ≡ length sent
+repaired_size : (sent errors : List ℕ) → length (repaired sent errors) ≡ length sent
 unfolding repaired
-repaired-size [] errors = refl
-repaired-size (x ∷ sent) [] = refl
-repaired-size (x ∷ sent) (error ∷ errors) = ap suc (repaired-size sent errors)
+repaired_size [] errors = refl
+repaired_size (x ∷ sent) [] = refl
+repaired_size (x ∷ sent) (error ∷ errors) = ap suc (repaired_size sent errors)
 
 repaired-zeros : (sent : List ℕ) (n : ℕ) → repaired sent (replicate n 0) ≡ sent
 unfolding repaired
@@ -41,33 +41,33 @@ repaired-zeros (x ∷ sent) (suc n) = ap₂ {C = List ℕ} (λ (y : ℕ) (word :
 -- ---- one word
 
 module _ (e i q s : ℕ) (block : List ℕ) (w : ℕ) (F : Fitting e i q s block) (found : Bool) (count : ℕ) (errors : List ℕ)
-    (O : WordOutcome e s (sentFrom i block w 0 (255 - q)) found count errors) where
+    (O : WordOutcome e s (sent_from i block w 0 (255 - q)) found count errors) where
   abbrev sent : List ℕ
-  sent = sentFrom i block w 0 (255 - q)
+  sent = sent_from i block w 0 (255 - q)
 
-  pub few-found : not found ≡ false → count ≤ 16
-  few-found y = omega (arith, few e i q s block w F found count errors O (not-false found y), F.allowance, (strength-bounds e F.strength).1)
+  pub few_found : not found ≡ false → count ≤ 16
+  few_found y = omega (arith, few e i q s block w F found count errors O (not-false found y), F.allowance, (strength_bounds e F.strength).1)
 
   module _ (before after : List ℕ) (P : Put i w (255 - q) block errors before after) where
     -- the word's symbols afterwards
-    put-sent : sentFrom i after w 0 (255 - q) ≡ repaired sent errors
-    put-sent =
-        sent_is i after w 0 (255 - q) (repaired sent errors) (repaired-size sent errors ∙ sent-length i block w 0 (255 - q))
-        (λ j h. ap (λ (n : ℕ). get_or after (n * i + w) 0) (zero-add j) ∙ P.here j h ∙ ap (λ (x : ℕ). bit_xor x (get_or errors j 0)) (sym (sent-symbol i block w (255 - q) j h))
-        ∙ sym (⊕-is (get_or sent j 0) (get_or errors j 0))
+    put_sent : sent_from i after w 0 (255 - q) ≡ repaired sent errors
+    put_sent =
+        sent_is i after w 0 (255 - q) (repaired sent errors) (repaired_size sent errors ∙ sent-length i block w 0 (255 - q))
+        (λ j h. ap (λ (n : ℕ). get_or after (n * i + w) 0) (zero-add j) ∙ P.here j h ∙ ap (λ (x : ℕ). bit_xor x (get_or errors j 0)) (sym (sent_symbol i block w (255 - q) j h))
+        ∙ sym (⊕_is (get_or sent j 0) (get_or errors j 0))
         ∙ sym (repaired-at sent errors j (omega (arith, sent-length i block w 0 (255 - q))) (omega (arith, sent-length i block w 0 (255 - q), O.size))))
 
-    pub word-mended : not found ≡ false → WordPut e i q s block w before 1 count after
-    word-mended y =
+    pub word_mended : not found ≡ false → WordPut e i q s block w before 1 count after
+    word_mended y =
         record {
           size = P.size;
           others = P.others;
           here = inl (record {
             marked = refl;
-            good = subst (λ (word : List ℕ). Good e q s (withFill q sent) (withFill q word)) (sym put-sent)
-                (subst (λ (f : ℕ). Good e f s (withFill f sent) (withFill f (repaired sent errors))) (fill_is e i q s block w F) (O.whenFound (not-false found y)).good);
-            counted = (O.whenFound (not-false found y)).counted ∙ ap (λ (f : ℕ). differing (withFill f sent) (withFill f (repaired sent errors))) (fill_is e i q s block w F)
-                ∙ ap (λ (word : List ℕ). differing (withFill q sent) (withFill q word)) (sym put-sent);
+            good = subst (λ (word : List ℕ). Good e q s (with_fill q sent) (with_fill q word)) (sym put_sent)
+                (subst (λ (f : ℕ). Good e f s (with_fill f sent) (with_fill f (repaired sent errors))) (fill_is e i q s block w F) (O.when_found (not-false found y)).good);
+            counted = (O.when_found (not-false found y)).counted ∙ ap (λ (f : ℕ). differing (with_fill f sent) (with_fill f (repaired sent errors))) (fill_is e i q s block w F)
+                ∙ ap (λ (word : List ℕ). differing (with_fill q sent) (with_fill q word)) (sym put_sent);
           });
         }
 
@@ -79,7 +79,7 @@ module _ (e i q s : ℕ) (block : List ℕ) (w : ℕ) (F : Fitting e i q s block
           here = inr (record {
             unmarked = refl;
             uncounted = refl;
-            kept = put-sent ∙ ap (repaired sent) (O.whenNot (not-true found n)).empty ∙ repaired-zeros sent 255;
+            kept = put_sent ∙ ap (repaired sent) (O.when_not (not-true found n)).empty ∙ repaired-zeros sent 255;
             lost = lost e i q s block w F found count errors O (not-true found n);
           });
         }
@@ -87,16 +87,16 @@ module _ (e i q s : ℕ) (block : List ℕ) (w : ℕ) (F : Fitting e i q s block
 -- ---- the words one after the other
 
 module _ (e i q s : ℕ) (block : List ℕ) where
-  pub words-start : (after : List ℕ) → WordsPut e i q s block 0 (replicate 8 0) (replicate 8 0) after
-  words-start after = record { each = λ v h. absurd (omega arith); beyond = λ v h. (zero-at 8 v, zero-at 8 v); sizes = (refl, refl) }
+  pub words_start : (after : List ℕ) → WordsPut e i q s block 0 (replicate 8 0) (replicate 8 0) after
+  words_start after = record { each = λ v h. absurd (omega arith); beyond = λ v h. (zero-at 8 v, zero-at 8 v); sizes = (refl, refl) }
 
-  pub words-turn : (w : ℕ) (marks counts before : List ℕ) (mark count : ℕ) (after : List ℕ) → w < i → i ≤ 8 → WordsPut e i q s block w marks counts before
+  pub words_turn : (w : ℕ) (marks counts before : List ℕ) (mark count : ℕ) (after : List ℕ) → w < i → i ≤ 8 → WordsPut e i q s block w marks counts before
       → WordPut e i q s block w before mark count after → WordsPut e i q s block (w + 1) (set marks w mark) (set counts w count) after
-  words-turn w marks counts before mark count after inside deep W P =
+  words_turn w marks counts before mark count after inside deep W P =
       record {
         each = λ v h. elim (ℕ_discrete v w) [
           | yes e' ↦ rw (e', get_or-set_same marks w mark 0 (omega (arith, W.sizes.0)), get_or-set_same counts w count 0 (omega (arith, W.sizes.1))) P.here
-          | no d ↦ subst (λ (word : List ℕ). WordSalvaged e q s (sentFrom i block v 0 (255 - q)) (get_or (set marks w mark) v 0) (get_or (set counts w count) v 0) word)
+          | no d ↦ subst (λ (word : List ℕ). WordSalvaged e q s (sent_from i block v 0 (255 - q)) (get_or (set marks w mark) v 0) (get_or (set counts w count) v 0) word)
               (sym (sent-same i after before v 0 (255 - q) (λ j l. P.others (0 + j) v (omega arith) d)))
               (rw (get_or-set_other marks w v mark 0 d, get_or-set_other counts w v count 0 d) (W.each v (omega arith)))
         ];
@@ -106,11 +106,11 @@ module _ (e i q s : ℕ) (block : List ℕ) where
 
 -- ---- marks alone
 
-pub marks-start : MarksSet 0 (replicate 8 0)
-marks-start = record { marked = λ v h. absurd (omega arith); beyond = λ v h. zero-at 8 v; size = refl }
+pub marks_start : MarksSet 0 (replicate 8 0)
+marks_start = record { marked = λ v h. absurd (omega arith); beyond = λ v h. zero-at 8 v; size = refl }
 
-pub marks-turn : (w : ℕ) (marks : List ℕ) → w < 8 → MarksSet w marks → MarksSet (w + 1) (set marks w 1)
-marks-turn w marks inside M =
+pub marks_turn : (w : ℕ) (marks : List ℕ) → w < 8 → MarksSet w marks → MarksSet (w + 1) (set marks w 1)
+marks_turn w marks inside M =
     record {
       marked = λ v h. elim (ℕ_discrete v w) [
         | yes e ↦ ap (λ (n : ℕ). get_or (set marks w 1) n 0) e ∙ get_or-set_same marks w 1 0 (omega (arith, M.size))

@@ -6,101 +6,101 @@ use Prim.Native.Nat.{ℕ, suc, ◌+◌, ◌-◌, ◌*◌, ◌≤◌, ◌<◌}
 use native.Mathlib.Omega.{arith}
 use lib.ListN.{length, take, drop, get_or, replicate}
 use lib.Seq.{get_or-take, length-take-le, take_all, take-take}
-use Rattle.octets.specs.Copies.{copiedOver}
-use Rattle.octets.proofs.Laws.{copied-length, copied-front}
+use Rattle.octets.specs.Copies.{copied_over}
+use Rattle.octets.proofs.Laws.{copied_length, copied_front}
 use Rattle.refusals.specs.Order.{FirstOf}
-use Rattle.refusals.specs.Numbers.{verdictNumber}
-use Rattle.refusals.specs.Calls.{decodeParameters, salvageOrder}
+use Rattle.refusals.specs.Numbers.{verdict_number}
+use Rattle.refusals.specs.Calls.{decode_parameters, salvage_order}
 use Rattle.refusals.specs.declared.Parameter.{Parameter}
 use Rattle.refusals.specs.declared.Verdict.{Verdict}
 use Rattle.refusals.specs.declared.Verdict.TheVariants.{Accepted, Refused}
-use Rattle.refusals.proofs.Legal.{accepted-salvage}
-use Rattle.refusals.proofs.Verdicts.{parameter-nonzero, same-verdict}
-use Rattle.codewords.proofs.LineWords.{differing-self}
+use Rattle.refusals.proofs.Legal.{accepted_salvage}
+use Rattle.refusals.proofs.Verdicts.{parameter_nonzero, same_verdict}
+use Rattle.codewords.proofs.LineWords.{differing_self}
 use Rattle.words.proofs.Arrays.{zero-at}
-use Rattle.encoding.specs.Blocks.{sentFrom, word_of}
+use Rattle.encoding.specs.Blocks.{sent_from, word_of}
 use Rattle.encoding.specs.Rows.{no_rows}
 use Rattle.encoding.specs.Rows.{RowsOn}
 use Rattle.reed_solomon.specs.DecoderWorking.{Standing}
-use Rattle.reed_solomon.specs.Changes.{changesFrom}
+use Rattle.reed_solomon.specs.Changes.{changes_from}
 use Rattle.reed_solomon.specs.Salvaging.{WordSalvaged, SalvageOutcome}
 use Rattle.reed_solomon.specs.SalvageWorking.{WordsPut, MarksSet, Listed}
 use Rattle.encoding.proofs.Interleaving.{place-below, sent-same}
-use Rattle.reed_solomon.proofs.Deliveries.{LegalBlock, legal-block, coded-room, standing-good}
-use Rattle.reed_solomon.proofs.ChangeLists.{change-none}
+use Rattle.reed_solomon.proofs.Deliveries.{LegalBlock, legal_block, coded_room, standing_good}
+use Rattle.reed_solomon.proofs.ChangeLists.{change_none}
 
 -- ---- what passed parameters say
 
-module _ (e i q s block frame list : ℕ) (f : FirstOf (salvageOrder e i q s block frame list) 0) where
+module _ (e i q s block frame list : ℕ) (f : FirstOf (salvage_order e i q s block frame list) 0) where
   -- decode accepts them too
-  pub salvage-decodes : FirstOf (decodeParameters e i q s block frame) 0
-  salvage-decodes = (accepted-salvage e i q s block frame list f).0
+  pub salvage_decodes : FirstOf (decode_parameters e i q s block frame) 0
+  salvage_decodes = (accepted_salvage e i q s block frame list f).0
 
-  pub salvage-legal : LegalBlock e i q s block frame
-  salvage-legal = legal-block e i q s block frame salvage-decodes
+  pub salvage_legal : LegalBlock e i q s block frame
+  salvage_legal = legal_block e i q s block frame salvage_decodes
 
-  pub list-room : list ≡ 4 * block
-  list-room = (accepted-salvage e i q s block frame list f).1 ∙ ap (λ (n : ℕ). 4 * n) (sym salvage-legal.received)
+  pub list_room : list ≡ 4 * block
+  list_room = (accepted_salvage e i q s block frame list f).1 ∙ ap (λ (n : ℕ). 4 * n) (sym salvage_legal.received)
 
 -- ---- the answers
 
 module _ (e i q s : ℕ) (block before listed : List ℕ) where
-  pub salvage-refuses : (v : Verdict) (p : Parameter) → v ≡ Refused p → FirstOf (salvageOrder e i q s (length block) (length before) (length listed)) (verdictNumber v)
+  pub salvage_refuses : (v : Verdict) (p : Parameter) → v ≡ Refused p → FirstOf (salvage_order e i q s (length block) (length before) (length listed)) (verdict_number v)
       → (a : Verdict) (marks counts : List ℕ) (entries : ℕ) → (a ≡ Refused p) × (marks ≡ replicate 8 0) × (counts ≡ replicate 8 0) × (entries ≡ 0)
       → SalvageOutcome e i q s block before listed a marks counts entries before listed
-  salvage-refuses v p is f a marks counts entries none =
+  salvage_refuses v p is f a marks counts entries none =
       record {
-        number = same-verdict (salvageOrder e i q s (length block) (length before) (length listed)) v a (is ∙ sym none.0) f;
+        number = same_verdict (salvage_order e i q s (length block) (length before) (length listed)) v a (is ∙ sym none.0) f;
         size = (refl, refl, ap length none.1, ap length none.2);
         refused = λ n. (refl, refl, none.1, none.2, none.3);
-        salvaged = λ z. absurd (parameter-nonzero p (ap verdictNumber (sym none.0) ∙ z));
+        salvaged = λ z. absurd (parameter_nonzero p (ap verdict_number (sym none.0) ∙ z));
       }
 
-  module _ (f : FirstOf (salvageOrder e i q s (length block) (length before) (length listed)) 0) where
+  module _ (f : FirstOf (salvage_order e i q s (length block) (length before) (length listed)) 0) where
     room : (0 < i) × (i ≤ 8) × (length before ≤ length block) × (length block ≤ length before + 32 * i) × (length block ≤ 2040)
-    room = coded-room e i q s (length block) (length before) (salvage-decodes e i q s (length block) (length before) (length listed) f)
+    room = coded_room e i q s (length block) (length before) (salvage_decodes e i q s (length block) (length before) (length listed) f)
 
     -- the frame that is copied out of a list is its front
-    front-copied : (repaired frame : List ℕ) → length before ≤ length repaired → frame ≡ copiedOver (take (length before) repaired) before
+    front_copied : (repaired frame : List ℕ) → length before ≤ length repaired → frame ≡ copied_over (take (length before) repaired) before
         → (length frame ≡ length before) × (frame ≡ take (length frame) repaired)
-    front-copied repaired frame fits copied = (long, front ∙ ap (λ (n : ℕ). take n repaired) (sym long))
+    front_copied repaired frame fits copied = (long, front ∙ ap (λ (n : ℕ). take n repaired) (sym long))
       where
         first : List ℕ
         first = take (length before) repaired
 
-        first-size : length first ≡ length before
-        first-size = length-take-le (length before) repaired fits
+        first_size : length first ≡ length before
+        first_size = length-take-le (length before) repaired fits
 
         long : length frame ≡ length before
-        long = ap length copied ∙ copied-length first before
+        long = ap length copied ∙ copied_length first before
 
         front : frame ≡ take (length before) repaired
-        front = sym (take_all (length first) frame (omega (arith, long, first-size))) ∙ ap (take (length first)) copied ∙ copied-front first before (omega (arith, first-size))
+        front = sym (take_all (length first) frame (omega (arith, long, first_size))) ∙ ap (take (length first)) copied ∙ copied_front first before (omega (arith, first_size))
 
     module _ (marks counts mended : List ℕ) (W : WordsPut e i q s block i marks counts mended) (size : length mended ≡ 2040) where
       abbrev part : List ℕ
       part = take (length block) mended
 
-      pub block-fits : length block ≤ length mended
-      block-fits = omega (arith, size, room.4)
+      pub block_fits : length block ≤ length mended
+      block_fits = omega (arith, size, room.4)
 
-      pub frame-fits : length before ≤ length mended
-      frame-fits = omega (arith, block-fits, room.2)
+      pub frame_fits : length before ≤ length mended
+      frame_fits = omega (arith, block_fits, room.2)
 
-      part-size : length part ≡ length block
-      part-size = length-take-le (length block) mended block-fits
+      part_size : length part ≡ length block
+      part_size = length-take-le (length block) mended block_fits
 
-      pub changes-room : (length block ≤ 2040) × (length (take (length block) mended) ≡ length block) × (length listed ≡ 4 * length block)
-      changes-room = (room.4, part-size, list-room e i q s (length block) (length before) (length listed) f)
+      pub changes_room : (length block ≤ 2040) × (length (take (length block) mended) ≡ length block) × (length listed ≡ 4 * length block)
+      changes_room = (room.4, part_size, list_room e i q s (length block) (length before) (length listed) f)
 
       -- the words of the front are those of the whole
-      same_sent : (w : ℕ) → w < i → sentFrom i mended w 0 (255 - q) ≡ sentFrom i part w 0 (255 - q)
+      same_sent : (w : ℕ) → w < i → sent_from i mended w 0 (255 - q) ≡ sent_from i part w 0 (255 - q)
       same_sent w h =
           sent-same i mended part w 0 (255 - q)
           (λ j l. sym (get_or-take (length block) mended ((0 + j) * i + w) 0
-          (omega (arith, (salvage-legal e i q s (length block) (length before) (length listed) f).received, place-below i (0 + j) (255 - q) w (omega arith) h))))
+          (omega (arith, (salvage_legal e i q s (length block) (length before) (length listed) f).received, place-below i (0 + j) (255 - q) w (omega arith) h))))
 
-      pub salvages : (frame list : List ℕ) (entries : ℕ) → frame ≡ copiedOver (take (length before) mended) before → Listed block part listed (length block) entries list
+      pub salvages : (frame list : List ℕ) (entries : ℕ) → frame ≡ copied_over (take (length before) mended) before → Listed block part listed (length block) entries list
           → SalvageOutcome e i q s block before listed Accepted marks counts entries frame list
       salvages frame list entries copied C =
           record {
@@ -109,8 +109,8 @@ module _ (e i q s : ℕ) (block before listed : List ℕ) where
             refused = λ n. absurd (n refl);
             salvaged = λ z. record {
               repaired = part;
-              size = part-size;
-              words = λ w h. subst (WordSalvaged e q s (sentFrom i block w 0 (255 - q)) (get_or marks w 0) (get_or counts w 0)) (same_sent w h) (W.each w h);
+              size = part_size;
+              words = λ w h. subst (WordSalvaged e q s (sent_from i block w 0 (255 - q)) (get_or marks w 0) (get_or counts w 0)) (same_sent w h) (W.each w h);
               beyond = W.beyond;
               front = front.1 ∙ sym (take-take (length frame) (length block) mended (omega (arith, front.0, room.2)));
               entered = C.entered ∙ ap length all;
@@ -119,43 +119,43 @@ module _ (e i q s : ℕ) (block before listed : List ℕ) where
           }
         where
           front : (length frame ≡ length before) × (frame ≡ take (length frame) mended)
-          front = front-copied mended frame frame-fits copied
+          front = front_copied mended frame frame_fits copied
 
-          all : changesFrom 0 (take (length block) block) (take (length block) part) ≡ changesFrom 0 block part
-          all = ap₂ (changesFrom 0) (take_all (length block) block (omega arith)) (take_all (length block) part (omega (arith, part-size)))
+          all : changes_from 0 (take (length block) block) (take (length block) part) ≡ changes_from 0 block part
+          all = ap₂ (changes_from 0) (take_all (length block) block (omega arith)) (take_all (length block) part (omega (arith, part_size)))
 
     -- ---- a block that is coded as it stands: every word is repaired as it is
 
-    no-changes : (at : ℕ) (octets : List ℕ) → changesFrom at octets octets ≡ []
-    unfolding changesFrom
-    no-changes at [] = refl
-    no-changes at (x ∷ octets) = ap {B = List ℕ} (λ (l : List ℕ). l ++ changesFrom (suc at) octets octets) (change-none at x x refl) ∙ no-changes (suc at) octets
+    no_changes : (at : ℕ) (octets : List ℕ) → changes_from at octets octets ≡ []
+    unfolding changes_from
+    no_changes at [] = refl
+    no_changes at (x ∷ octets) = ap {B = List ℕ} (λ (l : List ℕ). l ++ changes_from (suc at) octets octets) (change_none at x x refl) ∙ no_changes (suc at) octets
 
     module _ (octets : (m : ℕ) → get_or block m 0 < 256) (rows : List (List ℕ)) (R : RowsOn e i 0 no_rows (take (length before) block) rows) (S : Standing rows i (length before) block) where
-      pub salvages-coded : (a : Verdict) (marks counts : List ℕ) (entries : ℕ) (frame : List ℕ) → (a ≡ Accepted) × MarksSet i marks × (counts ≡ replicate 8 0) × (entries ≡ 0)
-          → frame ≡ copiedOver (take (length before) block) before → SalvageOutcome e i q s block before listed a marks counts entries frame listed
-      salvages-coded a marks counts entries frame told copied =
+      pub salvages_coded : (a : Verdict) (marks counts : List ℕ) (entries : ℕ) (frame : List ℕ) → (a ≡ Accepted) × MarksSet i marks × (counts ≡ replicate 8 0) × (entries ≡ 0)
+          → frame ≡ copied_over (take (length before) block) before → SalvageOutcome e i q s block before listed a marks counts entries frame listed
+      salvages_coded a marks counts entries frame told copied =
           record {
-            number = subst (λ (v : Verdict). FirstOf (salvageOrder e i q s (length block) (length before) (length listed)) (verdictNumber v)) (sym told.0) f;
+            number = subst (λ (v : Verdict). FirstOf (salvage_order e i q s (length block) (length before) (length listed)) (verdict_number v)) (sym told.0) f;
             size = (front.0, refl, told.1.size, ap length told.2);
-            refused = λ n. absurd (n (ap verdictNumber told.0));
+            refused = λ n. absurd (n (ap verdict_number told.0));
             salvaged = λ z. record {
               repaired = block;
               size = refl;
               words = λ w h. inl (record {
                 marked = told.1.marked w h;
-                good = standing-good e i q s block before (salvage-decodes e i q s (length block) (length before) (length listed) f) octets rows R S w h;
-                counted = zero-count w ∙ sym (differing-self (word_of i q block w));
+                good = standing_good e i q s block before (salvage_decodes e i q s (length block) (length before) (length listed) f) octets rows R S w h;
+                counted = zero_count w ∙ sym (differing_self (word_of i q block w));
               });
-              beyond = λ w h. (told.1.beyond w h, zero-count w);
+              beyond = λ w h. (told.1.beyond w h, zero_count w);
               front = front.1;
-              entered = ap (λ (n : ℕ). 4 * n) told.3 ∙ ap length (sym (no-changes 0 block));
-              told = ap {B = List ℕ} (λ (n : ℕ). drop (4 * n) listed) (sym told.3) ∙ ap {B = List ℕ} (λ (l : List ℕ). l ++ drop (4 * entries) listed) (sym (no-changes 0 block));
+              entered = ap (λ (n : ℕ). 4 * n) told.3 ∙ ap length (sym (no_changes 0 block));
+              told = ap {B = List ℕ} (λ (n : ℕ). drop (4 * n) listed) (sym told.3) ∙ ap {B = List ℕ} (λ (l : List ℕ). l ++ drop (4 * entries) listed) (sym (no_changes 0 block));
             };
           }
         where
           front : (length frame ≡ length before) × (frame ≡ take (length frame) block)
-          front = front-copied block frame room.2 copied
+          front = front_copied block frame room.2 copied
 
-          zero-count : (w : ℕ) → get_or counts w 0 ≡ 0
-          zero-count w = ap (λ (c : List ℕ). get_or c w 0) told.2 ∙ zero-at 8 w
+          zero_count : (w : ℕ) → get_or counts w 0 ≡ 0
+          zero_count w = ap (λ (c : List ℕ). get_or c w 0) told.2 ∙ zero-at 8 w

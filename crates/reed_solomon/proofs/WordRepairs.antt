@@ -11,20 +11,20 @@ use lib.Bits.{bit_xor}
 use lib.ListN.{length, take, get_or, set, replicate, length-set, length-append, length-replicate, get_or-append}
 use lib.Seq.{get_or-take, get_or-append-add, get_or-set_same, get_or-set_other, ext_get_or, length-take-le}
 use Rattle.refusals.specs.Sizes.{information}
-use Rattle.refusals.proofs.Legal.{strength-bounds}
+use Rattle.refusals.proofs.Legal.{strength_bounds}
 use Rattle.field.specs.Field.{◌⊕◌}
-use Rattle.field.proofs.Sum.{⊕-is, zero-⊕, ⊕-norm}
-use Rattle.codewords.specs.Words.{Codeword, withFill, Good, differing}
+use Rattle.field.proofs.Sum.{⊕_is, zero-⊕, ⊕-norm}
+use Rattle.codewords.specs.Words.{Codeword, with_fill, Good, differing}
 use Rattle.codewords.specs.Polynomials.{◌⊞◌}
-use Rattle.codewords.proofs.WordValues.{length-pair}
-use Rattle.words.specs.Outcome.{LegalWord, fillOf, repaired, WordOutcome}
+use Rattle.codewords.proofs.WordValues.{length_pair}
+use Rattle.words.specs.Outcome.{LegalWord, fill_of, repaired, WordOutcome}
 use Rattle.words.proofs.Arrays.{zero-at}
 use Rattle.words.proofs.Coefficients.{at-⊞}
-use Rattle.words.proofs.OutcomesAdded.{outcome-⊞}
-use Rattle.encoding.specs.Blocks.{sentFrom, sum}
+use Rattle.words.proofs.OutcomesAdded.{outcome_⊞}
+use Rattle.encoding.specs.Blocks.{sent_from, sum}
 use Rattle.reed_solomon.specs.Outcome.{Lost}
 use Rattle.reed_solomon.specs.DecoderWorking.{CodedBy, Difference, Put, Fitting, HasCodeword, WordRepaired, Sofar}
-use Rattle.encoding.proofs.Interleaving.{sent-length, sent-symbol}
+use Rattle.encoding.proofs.Interleaving.{sent-length, sent_symbol}
 
 -- ---- symbols of a repaired word
 
@@ -35,20 +35,20 @@ repaired-at (x ∷ sent) [] k h l = absurd (omega arith)
 repaired-at (x ∷ sent) (error ∷ errors) zero h l = refl
 repaired-at (x ∷ sent) (error ∷ errors) (suc k) h l = repaired-at sent errors k (omega arith) (omega arith)
 
-filled_at : (q : ℕ) (word : List ℕ) (k : ℕ) → get_or (withFill q word) (q + k) 0 ≡ get_or word k 0
+filled_at : (q : ℕ) (word : List ℕ) (k : ℕ) → get_or (with_fill q word) (q + k) 0 ≡ get_or word k 0
 filled_at q word k =
-    ap (λ (n : ℕ). get_or (withFill q word) (n + k) 0) (sym (length-replicate q 0)) ∙ get_or-append-add (replicate q 0) word k 0
+    ap (λ (n : ℕ). get_or (with_fill q word) (n + k) 0) (sym (length-replicate q 0)) ∙ get_or-append-add (replicate q 0) word k 0
 
 -- ---- one word
 
 module _ (e i q s : ℕ) (block : List ℕ) (w : ℕ) (F : Fitting e i q s block) where
   abbrev sent : List ℕ
-  sent = sentFrom i block w 0 (255 - q)
+  sent = sent_from i block w 0 (255 - q)
 
   size : length sent ≡ 255 - q
   size = sent-length i block w 0 (255 - q)
 
-  pub fill_is : fillOf sent ≡ q
+  pub fill_is : fill_of sent ≡ q
   fill_is = omega (arith, size, F.filled)
 
   legal : LegalWord e s sent
@@ -56,28 +56,28 @@ module _ (e i q s : ℕ) (block : List ℕ) (w : ℕ) (F : Fitting e i q s block
       record {
         strength = F.strength;
         allowance = F.allowance;
-        enough = omega (arith, size, F.filled, (strength-bounds e F.strength).1);
+        enough = omega (arith, size, F.filled, (strength_bounds e F.strength).1);
         most = omega (arith, size);
       }
 
   module _ (found : Bool) (count : ℕ) (errors : List ℕ) (O : WordOutcome e s sent found count errors) where
     -- no codeword was found, so there is none
     pub lost : found ≡ false → Lost e i q s block w
-    lost n c G = (O.whenNot n).none legal c (subst (λ (f : ℕ). Good e f s (withFill f sent) c) (sym fill_is) G)
+    lost n c G = (O.when_not n).none legal c (subst (λ (f : ℕ). Good e f s (with_fill f sent) c) (sym fill_is) G)
 
     pub few : found ≡ true → count ≤ s
-    few y = omega (arith, (O.whenFound y).counted, (O.whenFound y).good.close)
+    few y = omega (arith, (O.when_found y).counted, (O.when_found y).good.close)
 
     -- one was found, and put into its places
     has : found ≡ true → (frame after : List ℕ) → Put i w (255 - q - 2 * e) block errors frame after → HasCodeword e i q s block w after count
     has y frame after P =
         record {
-          codeword = withFill q (repaired sent errors);
-          good = subst (λ (f : ℕ). Good e f s (withFill f sent) (withFill f (repaired sent errors))) fill_is (O.whenFound y).good;
-          symbols = λ k h. P.here k (omega arith) ∙ ap (λ (x : ℕ). bit_xor x (get_or errors k 0)) (sym (sent-symbol i block w (255 - q) k (omega arith)))
-              ∙ sym (⊕-is (get_or sent k 0) (get_or errors k 0)) ∙ sym (repaired-at sent errors k (omega (arith, size)) (omega (arith, size, O.size)))
+          codeword = with_fill q (repaired sent errors);
+          good = subst (λ (f : ℕ). Good e f s (with_fill f sent) (with_fill f (repaired sent errors))) fill_is (O.when_found y).good;
+          symbols = λ k h. P.here k (omega arith) ∙ ap (λ (x : ℕ). bit_xor x (get_or errors k 0)) (sym (sent_symbol i block w (255 - q) k (omega arith)))
+              ∙ sym (⊕_is (get_or sent k 0) (get_or errors k 0)) ∙ sym (repaired-at sent errors k (omega (arith, size)) (omega (arith, size, O.size)))
               ∙ sym (filled_at q (repaired sent errors) k);
-          count-is = (O.whenFound y).counted ∙ ap (λ (f : ℕ). differing (withFill f sent) (withFill f (repaired sent errors))) fill_is;
+          count_is = (O.when_found y).counted ∙ ap (λ (f : ℕ). differing (with_fill f sent) (with_fill f (repaired sent errors))) fill_is;
         }
 
 -- ---- the word less the codeword that its information symbols and a row make
@@ -88,7 +88,7 @@ module _ (e i q s : ℕ) (block : List ℕ) (w : ℕ) (F : Fitting e i q s block
   symbols = information e - q
 
   abbrev front : List ℕ
-  front = sentFrom i block w 0 symbols
+  front = sent_from i block w 0 symbols
 
   abbrev coded : List ℕ
   coded = front ++ take (e + e) row
@@ -97,78 +97,78 @@ module _ (e i q s : ℕ) (block : List ℕ) (w : ℕ) (F : Fitting e i q s block
   less = take (255 - q) rest
 
   sizes : 255 - q ≡ symbols + (e + e)
-  sizes = omega (arith, F.filled, (strength-bounds e F.strength).1)
+  sizes = omega (arith, F.filled, (strength_bounds e F.strength).1)
 
-  first-is : 255 - q - 2 * e ≡ symbols
-  first-is = omega arith
+  first_is : 255 - q - 2 * e ≡ symbols
+  first_is = omega arith
 
-  front-size : length front ≡ symbols
-  front-size = sent-length i block w 0 symbols
+  front_size : length front ≡ symbols
+  front_size = sent-length i block w 0 symbols
 
-  coded-size : length coded ≡ 255 - q
-  coded-size = omega (arith, C.full, length-append (replicate q 0) coded, length-replicate {A = ℕ} q 0)
+  coded_size : length coded ≡ 255 - q
+  coded_size = omega (arith, C.full, length-append (replicate q 0) coded, length-replicate {A = ℕ} q 0)
 
-  less-size : length less ≡ 255 - q
-  less-size = length-take-le (255 - q) rest (omega (arith, D.size))
+  less_size : length less ≡ 255 - q
+  less_size = length-take-le (255 - q) rest (omega (arith, D.size))
 
   less-at : (k : ℕ) → k < 255 - q → get_or less k 0 ⊕ get_or coded k 0 ≡ get_or block (k * i + w) 0
   less-at k h =
       elim (dec_lt k symbols) [
-        | yes l ↦ ap₂ (λ (x y : ℕ). x ⊕ y) (get_or-take (255 - q) rest k 0 h ∙ D.front k (omega (arith, first-is)))
-            (get_or-append front (take (e + e) row) 0 k (omega (arith, front-size)) ∙ sent-symbol i block w symbols k l) ∙ zero-⊕ (get_or block (k * i + w) 0)
+        | yes l ↦ ap₂ (λ (x y : ℕ). x ⊕ y) (get_or-take (255 - q) rest k 0 h ∙ D.front k (omega (arith, first_is)))
+            (get_or-append front (take (e + e) row) 0 k (omega (arith, front_size)) ∙ sent_symbol i block w symbols k l) ∙ zero-⊕ (get_or block (k * i + w) 0)
         | no n ↦ ap₂ (λ (x y : ℕ). x ⊕ y)
-            (get_or-take (255 - q) rest k 0 h ∙ D.checks k (omega (arith, first-is)) h ∙ sym (⊕-is (get_or row (k - (255 - q - 2 * e)) 0) (get_or block (k * i + w) 0))
-            ∙ ap (λ (j : ℕ). get_or row (k - j) 0 ⊕ get_or block (k * i + w) 0) first-is)
-            (ap (λ (m : ℕ). get_or coded m 0) (omega (arith, front-size)) ∙ get_or-append-add front (take (e + e) row) (k - symbols) 0
+            (get_or-take (255 - q) rest k 0 h ∙ D.checks k (omega (arith, first_is)) h ∙ sym (⊕_is (get_or row (k - (255 - q - 2 * e)) 0) (get_or block (k * i + w) 0))
+            ∙ ap (λ (j : ℕ). get_or row (k - j) 0 ⊕ get_or block (k * i + w) 0) first_is)
+            (ap (λ (m : ℕ). get_or coded m 0) (omega (arith, front_size)) ∙ get_or-append-add front (take (e + e) row) (k - symbols) 0
             ∙ get_or-take (e + e) row (k - symbols) 0 (omega (arith, sizes)))
             ∙ simp ⊕-norm
       ]
 
-  whole : less ⊞ coded ≡ sentFrom i block w 0 (255 - q)
+  whole : less ⊞ coded ≡ sent_from i block w 0 (255 - q)
   whole =
-      ext_get_or 0 (less ⊞ coded) (sentFrom i block w 0 (255 - q)) (length-pair less coded (less-size ∙ sym coded-size) ∙ less-size ∙ sym (sent-length i block w 0 (255 - q)))
-      (λ k h. at-⊞ less coded k ∙ less-at k (inside k h) ∙ sym (sent-symbol i block w (255 - q) k (inside k h)))
+      ext_get_or 0 (less ⊞ coded) (sent_from i block w 0 (255 - q)) (length_pair less coded (less_size ∙ sym coded_size) ∙ less_size ∙ sym (sent-length i block w 0 (255 - q)))
+      (λ k h. at-⊞ less coded k ∙ less-at k (inside k h) ∙ sym (sent_symbol i block w (255 - q) k (inside k h)))
     where
       inside : (k : ℕ) → k < length (less ⊞ coded) → k < 255 - q
-      inside k h = omega (arith, length-pair less coded (less-size ∙ sym coded-size), less-size)
+      inside k h = omega (arith, length_pair less coded (less_size ∙ sym coded_size), less_size)
 
   -- its outcome is the word's
-  pub word-outcome : (found : Bool) (count : ℕ) (errors : List ℕ) → WordOutcome e s less found count errors → WordOutcome e s (sentFrom i block w 0 (255 - q)) found count errors
-  word-outcome found count errors O =
+  pub word_outcome : (found : Bool) (count : ℕ) (errors : List ℕ) → WordOutcome e s less found count errors → WordOutcome e s (sent_from i block w 0 (255 - q)) found count errors
+  word_outcome found count errors O =
       subst (λ (l : List ℕ). WordOutcome e s l found count errors) whole
-      (outcome-⊞ e s less coded (coded-size ∙ sym less-size)
-      (subst (λ (n : ℕ). Codeword e (withFill n coded)) fill-back C) found count errors O)
+      (outcome_⊞ e s less coded (coded_size ∙ sym less_size)
+      (subst (λ (n : ℕ). Codeword e (with_fill n coded)) fill_back C) found count errors O)
     where
-      fill-back : q ≡ 255 - length less
-      fill-back = omega (arith, less-size, F.filled)
+      fill_back : q ≡ 255 - length less
+      fill_back = omega (arith, less_size, F.filled)
 
 -- ---- what `repair_word` answers
 
 -- the first n symbols of every word have room in a list that can hold the longest block, and are in the block
-pub symbols-room : (e i q s n : ℕ) (block frame : List ℕ) → Fitting e i q s block → n ≤ 255 → 2040 ≤ length frame → n * i ≤ length frame
-symbols-room e i q s n block frame F few room = omega (arith, mul-le-mul few F.deep)
+pub symbols_room : (e i q s n : ℕ) (block frame : List ℕ) → Fitting e i q s block → n ≤ 255 → 2040 ≤ length frame → n * i ≤ length frame
+symbols_room e i q s n block frame F few room = omega (arith, mul-le-mul few F.deep)
 
 pub symbols-sent : (e i q s n : ℕ) (block : List ℕ) → Fitting e i q s block → n ≤ 255 - q → n * i ≤ length block
 symbols-sent e i q s n block F few = omega (arith, F.received, mul-le-mul_right i few)
 
 module _ (e i q s : ℕ) (block : List ℕ) (w : ℕ) (F : Fitting e i q s block) (frame : List ℕ) (found : Bool) (count : ℕ) (errors : List ℕ)
-    (O : WordOutcome e s (sentFrom i block w 0 (255 - q)) found count errors) where
-  pub word-lost : not found ≡ true → WordRepaired e i q s block w frame false 0 frame
-  word-lost n =
+    (O : WordOutcome e s (sent_from i block w 0 (255 - q)) found count errors) where
+  pub word_lost : not found ≡ true → WordRepaired e i q s block w frame false 0 frame
+  word_lost n =
       record {
         size = refl;
         others = λ k v h d. refl;
-        whenFound = λ y. let z : ◌≡◌ {A = ℕ} 0 1 = cc in absurd (omega arith);
-        whenNot = λ y. lost e i q s block w F found count errors O (not-true found n);
+        when_found = λ y. let z : ◌≡◌ {A = ℕ} 0 1 = cc in absurd (omega arith);
+        when_not = λ y. lost e i q s block w F found count errors O (not-true found n);
       }
 
-  pub word-found : not found ≡ false → (after : List ℕ) → Put i w (255 - q - 2 * e) block errors frame after → WordRepaired e i q s block w frame true count after
-  word-found y after P =
+  pub word_found : not found ≡ false → (after : List ℕ) → Put i w (255 - q - 2 * e) block errors frame after → WordRepaired e i q s block w frame true count after
+  word_found y after P =
       record {
         size = P.size;
         others = P.others;
-        whenFound = λ t. has e i q s block w F found count errors O (not-false found y) frame after P;
-        whenNot = λ n. let z : ◌≡◌ {A = ℕ} 0 1 = cc in absurd (omega arith);
+        when_found = λ t. has e i q s block w F found count errors O (not-false found y) frame after P;
+        when_not = λ n. let z : ◌≡◌ {A = ℕ} 0 1 = cc in absurd (omega arith);
       }
 
 -- ---- the words one after the other
@@ -185,11 +185,11 @@ sum_zeros zero = refl
 sum_zeros (suc n) = omega (arith, sum_zeros n)
 
 module _ (e i q s : ℕ) (block : List ℕ) where
-  pub sofar-starts : (frame : List ℕ) → Sofar e i q s block frame (replicate 8 0) 0 0
-  sofar-starts frame = record { each = λ v h. absurd (omega arith); beyond = λ v h. zero-at 8 v; summed = sum_zeros 8; size = refl }
+  pub sofar_starts : (frame : List ℕ) → Sofar e i q s block frame (replicate 8 0) 0 0
+  sofar_starts frame = record { each = λ v h. absurd (omega arith); beyond = λ v h. zero-at 8 v; summed = sum_zeros 8; size = refl }
 
-  pub few-differ : (w : ℕ) (frame : List ℕ) (count : ℕ) → HasCodeword e i q s block w frame count → count ≤ s
-  few-differ w frame count H = omega (arith, H.count-is, H.good.close)
+  pub few_differ : (w : ℕ) (frame : List ℕ) (count : ℕ) → HasCodeword e i q s block w frame count → count ≤ s
+  few_differ w frame count H = omega (arith, H.count_is, H.good.close)
 
   module _ (before counts : List ℕ) (total w : ℕ) (found : Bool) (count : ℕ) (after : List ℕ) (h : w < i) (S : Sofar e i q s block before counts total w)
       (R : WordRepaired e i q s block w before found count after) where
@@ -200,18 +200,18 @@ module _ (e i q s : ℕ) (block : List ℕ) where
           codeword = (S.each v l).codeword;
           good = (S.each v l).good;
           symbols = λ k m. R.others k v (omega arith) (omega arith) ∙ (S.each v l).symbols k m;
-          count-is = (S.each v l).count-is;
+          count_is = (S.each v l).count_is;
         }
 
-    pub sofar-stops : Sofar e i q s block after counts total w
-    sofar-stops = record { each = kept; beyond = S.beyond; summed = S.summed; size = S.size }
+    pub sofar_stops : Sofar e i q s block after counts total w
+    sofar_stops = record { each = kept; beyond = S.beyond; summed = S.summed; size = S.size }
 
-    pub sofar-turn : i ≤ 8 → found ≡ true → Sofar e i q s block after (set counts w count) (total + count) (w + 1)
-    sofar-turn deep y =
+    pub sofar_turn : i ≤ 8 → found ≡ true → Sofar e i q s block after (set counts w count) (total + count) (w + 1)
+    sofar_turn deep y =
         record {
           each = λ v l. elim (ℕ_discrete v w) [
             | yes e' ↦ subst (λ (x : ℕ). HasCodeword e i q s block x after (get_or (set counts w count) x 0)) (sym e')
-                (subst (HasCodeword e i q s block w after) (sym (get_or-set_same counts w count 0 (omega (arith, S.size)))) (R.whenFound y))
+                (subst (HasCodeword e i q s block w after) (sym (get_or-set_same counts w count 0 (omega (arith, S.size)))) (R.when_found y))
             | no d ↦ subst (HasCodeword e i q s block v after) (sym (get_or-set_other counts w v count 0 d)) (kept v (omega arith))
           ];
           beyond = λ v l. get_or-set_other counts w v count 0 (omega arith) ∙ S.beyond v (omega arith);

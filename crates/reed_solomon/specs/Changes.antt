@@ -6,10 +6,10 @@ abbrev pub change : ℕ → ℕ → ℕ → List ℕ
 change at old new = cond (eqb old new) [] (at / 256 ∷ at % 256 ∷ old ∷ new ∷ [])
 
 -- The entries of all octets that changed, in block order, where the first octet is number `at`.
-unfoldable pub changesFrom : ℕ → List ℕ → List ℕ → List ℕ
-changesFrom at [] after = []
-changesFrom at (old ∷ block) [] = []
-changesFrom at (old ∷ block) (new ∷ after) = change at old new ++ changesFrom (suc at) block after
+unfoldable pub changes_from : ℕ → List ℕ → List ℕ → List ℕ
+changes_from at [] after = []
+changes_from at (old ∷ block) [] = []
+changes_from at (old ∷ block) (new ∷ after) = change at old new ++ changes_from (suc at) block after
 
 -- The block with a list's entries put into their places.
 unfoldable pub applied : List ℕ → List ℕ → List ℕ

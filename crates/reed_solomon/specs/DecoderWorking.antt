@@ -2,9 +2,9 @@
 use Rattle.std.specs.Prelude.{◌≡◌, Bool, true, false, ◌≢◌, List, [], ◌++◌, ℕ, ◌+◌, ◌-◌, ◌*◌, ◌≤◌, ◌<◌, length, take, get_or}
 use Rattle.std.specs.Int.Bits.{bit_xor}
 use Rattle.refusals.specs.Order.{OneOf}
-use Rattle.refusals.specs.Sizes.{strengths, information, blockLength}
-use Rattle.codewords.specs.Words.{Codeword, Good, differing, withFill}
-use Rattle.encoding.specs.Blocks.{sentFrom, word_of, sum}
+use Rattle.refusals.specs.Sizes.{strengths, information, block_length}
+use Rattle.codewords.specs.Words.{Codeword, Good, differing, with_fill}
+use Rattle.encoding.specs.Blocks.{sent_from, word_of, sum}
 use Rattle.reed_solomon.specs.Outcome.{Lost}
 
 -- From octet `first` on the block holds a row's octets, i apart; and from octet `start` on it holds the rows interleaved.
@@ -16,7 +16,7 @@ Standing rows i start block = (j w : ℕ) → w < i → start + (j * i + w) < le
 
 -- A row has the checks that make a codeword of word w's information symbols; and so for each word.
 abbrev pub CodedBy : ℕ → ℕ → ℕ → List ℕ → ℕ → List ℕ → Type 0
-CodedBy e i q block w row = Codeword e (withFill q (sentFrom i block w 0 (information e - q) ++ take (e + e) row))
+CodedBy e i q block w row = Codeword e (with_fill q (sent_from i block w 0 (information e - q) ++ take (e + e) row))
 
 abbrev pub WordRows : ℕ → ℕ → ℕ → List ℕ → List (List ℕ) → Type 0
 WordRows e i q block rows = (w : ℕ) → w < i → CodedBy e i q block w (get_or rows w [])
@@ -40,21 +40,21 @@ pub record Fitting (e i q s : ℕ) (block : List ℕ) : Type 0 where
   pub some : 0 < i
   pub deep : i ≤ 8
   pub filled : q < information e
-  pub received : length block ≡ blockLength i q
+  pub received : length block ≡ block_length i q
 
 -- Word w has its codeword: it is good, its information symbols stand in their places of the frame, and the count is its own.
 pub record HasCodeword (e i q s : ℕ) (block : List ℕ) (w : ℕ) (after : List ℕ) (count : ℕ) : Type 0 where
   pub codeword : List ℕ
   pub good : Good e q s (word_of i q block w) codeword
   pub symbols : (k : ℕ) → k < information e - q → get_or after (k * i + w) 0 ≡ get_or codeword (q + k) 0
-  pub count-is : count ≡ differing (word_of i q block w) codeword
+  pub count_is : count ≡ differing (word_of i q block w) codeword
 
 -- One word: found and repaired into the frame, where the other words' symbols stay, or not found.
 pub record WordRepaired (e i q s : ℕ) (block : List ℕ) (w : ℕ) (before : List ℕ) (found : Bool) (count : ℕ) (after : List ℕ) : Type 0 where
   pub size : length after ≡ length before
   pub others : (k v : ℕ) → v < i → v ≢ w → get_or after (k * i + v) 0 ≡ get_or before (k * i + v) 0
-  pub whenFound : found ≡ true → HasCodeword e i q s block w after count
-  pub whenNot : found ≡ false → Lost e i q s block w
+  pub when_found : found ≡ true → HasCodeword e i q s block w after count
+  pub when_not : found ≡ false → Lost e i q s block w
 
 -- The words before w have their codewords; the counts are theirs, and zero from w on.
 pub record Sofar (e i q s : ℕ) (block frame counts : List ℕ) (total w : ℕ) : Type 0 where

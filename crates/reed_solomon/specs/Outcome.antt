@@ -2,8 +2,8 @@
 use Rattle.std.specs.Prelude.{◌≡◌, ◌≢◌, List, ℕ, ◌+◌, ◌-◌, ◌*◌, ◌≤◌, ◌<◌, length, get_or, replicate}
 use Rattle.refusals.specs.Order.{FirstOf}
 use Rattle.refusals.specs.Sizes.{information}
-use Rattle.refusals.specs.Numbers.{wordNumber, wordValue}
-use Rattle.refusals.specs.Calls.{decodeOrder}
+use Rattle.refusals.specs.Numbers.{word_number, word_value}
+use Rattle.refusals.specs.Calls.{decode_order}
 use Rattle.reed_solomon.specs.declared.Decoded.{Decoded}
 use Rattle.reed_solomon.specs.declared.Decoded.TheVariants.{Delivered, Refused}
 use Rattle.codewords.specs.Words.{Good, differing}
@@ -30,19 +30,19 @@ pub record LowestLost (e i q s : ℕ) (block : List ℕ) (w : ℕ) : Type 0 wher
   pub before : (v : ℕ) → v < w → (codeword : List ℕ) × Good e q s (word_of i q block v) codeword
 
 -- The answer's number and value, as document 01 gives them; 0 is delivered.
-abbrev pub decodedNumber : Decoded → ℕ
-decodedNumber Delivered = 0
-decodedNumber (Refused r) = wordNumber r
+abbrev pub decoded_number : Decoded → ℕ
+decoded_number Delivered = 0
+decoded_number (Refused r) = word_number r
 
-abbrev pub decodedValue : Decoded → ℕ
-decodedValue Delivered = 0
-decodedValue (Refused r) = wordValue r
+abbrev pub decoded_value : Decoded → ℕ
+decoded_value Delivered = 0
+decoded_value (Refused r) = word_value r
 
 -- Decode checks in its order, 10 if some word is lost, the lowest of them named. After a refusal the frame is as it was and the
 -- report is all zero.
 pub record DecodeOutcome (e i q s : ℕ) (block before : List ℕ) (answer : Decoded) (counts : List ℕ) (total : ℕ) (after : List ℕ) : Type 0 where
-  pub number : FirstOf (decodeOrder e i q s (length block) (length before) ((w : ℕ) × (w < i) × Lost e i q s block w)) (decodedNumber answer)
-  pub word : decodedNumber answer ≡ 10 → LowestLost e i q s block (decodedValue answer)
+  pub number : FirstOf (decode_order e i q s (length block) (length before) ((w : ℕ) × (w < i) × Lost e i q s block w)) (decoded_number answer)
+  pub word : decoded_number answer ≡ 10 → LowestLost e i q s block (decoded_value answer)
   pub size : (length after ≡ length before) × (length counts ≡ 8)
-  pub refused : decodedNumber answer ≢ 0 → (after ≡ before) × (counts ≡ replicate 8 0) × (total ≡ 0)
-  pub delivered : decodedNumber answer ≡ 0 → Delivery e i q s block after counts total
+  pub refused : decoded_number answer ≢ 0 → (after ≡ before) × (counts ≡ replicate 8 0) × (total ≡ 0)
+  pub delivered : decoded_number answer ≡ 0 → Delivery e i q s block after counts total

@@ -1,7 +1,7 @@
 // The errors of one word of a block, for decode and for salvage.
 ghost use Rattle.std.specs.Prelude.{◌-◌, ◌<◌};
 ghost use Rattle.words.specs.Outcome.{WordOutcome};
-ghost use Rattle.encoding.specs.Blocks.{sentFrom};
+ghost use Rattle.encoding.specs.Blocks.{sent_from};
 ghost use Rattle.reed_solomon.specs.DecoderWorking.{Fitting, CodedBy};
 
 use crate::symbols::difference;
@@ -18,7 +18,7 @@ pub(crate) fn word_errors(
     row: [u8; 32],
 ) -> WordAnswer
     requires { Fitting e depth fill s block.now × (w < depth) × CodedBy e depth fill block.now w row }
-    ensures { WordOutcome e s (sentFrom depth block.now w 0 (255 - fill)) result.found result.count result.errors }
+    ensures { WordOutcome e s (sent_from depth block.now w 0 (255 - fill)) result.found result.count result.errors }
 {
     let n = 255 - fill;
     let first = n - 2 * (e as usize);

@@ -9,12 +9,12 @@ use native.Mathlib.Decide.{ℕ_discrete}
 use Rattle.refusals.specs.Order.{Check, FirstOf, OneOf, Tells}
 
 -- Two numbers that one order permits are equal.
-pub first-unique : (order : List Check) (m n : ℕ) → FirstOf order m → FirstOf order n → m ≡ n
-first-unique [] m n p q = p ∙ sym q
-first-unique (check ∷ later) m n (inl p) (inl q) = p.1 ∙ sym q.1
-first-unique (check ∷ later) m n (inl p) (inr q) = absurd (q.0 p.0)
-first-unique (check ∷ later) m n (inr p) (inl q) = absurd (p.0 q.0)
-first-unique (check ∷ later) m n (inr p) (inr q) = first-unique later m n p.1 q.1
+pub first_unique : (order : List Check) (m n : ℕ) → FirstOf order m → FirstOf order n → m ≡ n
+first_unique [] m n p q = p ∙ sym q
+first_unique (check ∷ later) m n (inl p) (inl q) = p.1 ∙ sym q.1
+first_unique (check ∷ later) m n (inl p) (inr q) = absurd (q.0 p.0)
+first_unique (check ∷ later) m n (inr p) (inl q) = absurd (p.0 q.0)
+first_unique (check ∷ later) m n (inr p) (inr q) = first_unique later m n p.1 q.1
 
 -- Every number of the order is a refusal.
 abbrev pub Numbered : List Check → Type 0
@@ -38,27 +38,27 @@ first_passes (check ∷ later) n o (inl p) q = absurd (o.0 (sym p.1))
 first_passes (check ∷ later) n o (inr p) q = inr (p.0, first_passes later n o.1 p.1 q)
 
 -- And back: the whole accepts only what its first part accepts.
-pub first-accepts : (rest : Type 0) (front : List Check) → Numbered front → Begins front 0 rest → FirstOf front 0
-first-accepts rest [] o p = refl
-first-accepts rest (check ∷ later) o (inl p) = absurd (o.0 (sym p.1))
-first-accepts rest (check ∷ later) o (inr p) = inr (p.0, first-accepts rest later o.1 p.1)
+pub first_accepts : (rest : Type 0) (front : List Check) → Numbered front → Begins front 0 rest → FirstOf front 0
+first_accepts rest [] o p = refl
+first_accepts rest (check ∷ later) o (inl p) = absurd (o.0 (sym p.1))
+first_accepts rest (check ∷ later) o (inr p) = inr (p.0, first_accepts rest later o.1 p.1)
 
 -- Accepted means that no check is due, and the other way round.
 abbrev pub Clear : List Check → Type 0
 Clear [] = Unit {0}
 Clear (check ∷ later) = (check.1 → ⊥) × Clear later
 
-pub accepted-clear : (order : List Check) → Numbered order → FirstOf order 0 → Clear order
-accepted-clear [] o p = tt
-accepted-clear (check ∷ later) o (inl p) = absurd (o.0 (sym p.1))
-accepted-clear (check ∷ later) o (inr p) = (p.0, accepted-clear later o.1 p.1)
+pub accepted_clear : (order : List Check) → Numbered order → FirstOf order 0 → Clear order
+accepted_clear [] o p = tt
+accepted_clear (check ∷ later) o (inl p) = absurd (o.0 (sym p.1))
+accepted_clear (check ∷ later) o (inr p) = (p.0, accepted_clear later o.1 p.1)
 
-pub clear-accepted : (order : List Check) → Clear order → FirstOf order 0
-clear-accepted [] c = refl
-clear-accepted (check ∷ later) c = inr (c.0, clear-accepted later c.1)
+pub clear_accepted : (order : List Check) → Clear order → FirstOf order 0
+clear_accepted [] c = refl
+clear_accepted (check ∷ later) c = inr (c.0, clear_accepted later c.1)
 
-pub not-different : (m n : ℕ) → ((m ≢ n) → ⊥) → m ≡ n
-not-different m n d = elim (ℕ_discrete m n) [ yes e ↦ e | no x ↦ absurd (d x) ]
+pub not_different : (m n : ℕ) → ((m ≢ n) → ⊥) → m ≡ n
+not_different m n d = elim (ℕ_discrete m n) [ yes e ↦ e | no x ↦ absurd (d x) ]
 
 -- The flag of a negated test.
 pub denied : (flag : Bool) (fact : Type 0) → not flag ≡ true → Tells flag fact → fact → ⊥

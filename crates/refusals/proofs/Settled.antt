@@ -6,24 +6,24 @@ use Prim.Native.Nat.{ℕ}
 use lib.ListN.{get_or}
 use Rattle.refusals.specs.Order.{Check, FirstOf, OneOf, Tells}
 use Rattle.refusals.specs.Sizes.{strengths}
-use Rattle.refusals.specs.Numbers.{parameterNumber, verdictNumber, markerNumber}
-use Rattle.refusals.specs.Calls.{encodeOrder, portionOrder, closeOrder, decodeParameters, salvageOrder, randomiseOrder, convolveOrder, coderCloseOrder, likeliestOrder, markerParameters, searchOrder, transmitOrder, receiveParameters}
+use Rattle.refusals.specs.Numbers.{parameter_number, verdict_number, marker_number}
+use Rattle.refusals.specs.Calls.{encode_order, portion_order, close_order, decode_parameters, salvage_order, randomise_order, convolve_order, coder_close_order, likeliest_order, marker_parameters, search_order, transmit_order, receive_parameters}
 use Rattle.refusals.specs.declared.Parameter.{Parameter}
 use Rattle.refusals.specs.declared.Parameter.TheVariants.{Strength, Depth, Fill, Allowance, Input, Output, Rate, Tolerance, Start, Progress}
 use Rattle.refusals.specs.declared.Verdict.{Verdict}
 use Rattle.refusals.specs.declared.Verdict.TheVariants.{Accepted, Refused}
 use Rattle.refusals.specs.declared.MarkerRefusal.{MarkerRefusal}
-use Rattle.refusals.proofs.Orders.{first-unique}
+use Rattle.refusals.proofs.Orders.{first_unique}
 
 -- ---- a verdict is known by its number
 
-byNumber : List Verdict
-byNumber =
+by_number : List Verdict
+by_number =
     Accepted ∷ Refused Strength ∷ Refused Depth ∷ Refused Fill ∷ Refused Allowance ∷ Refused Input ∷ Refused Output ∷ Refused Rate ∷ Refused Tolerance
     ∷ Accepted ∷ Accepted ∷ Refused Start ∷ Accepted ∷ Accepted ∷ Refused Progress ∷ []
 
-found : (v : Verdict) → get_or byNumber (verdictNumber v) Accepted ≡ v
-unfolding byNumber
+found : (v : Verdict) → get_or by_number (verdict_number v) Accepted ≡ v
+unfolding by_number
 found Accepted = refl
 found (Refused Strength) = refl
 found (Refused Depth) = refl
@@ -36,78 +36,78 @@ found (Refused Tolerance) = refl
 found (Refused Start) = refl
 found (Refused Progress) = refl
 
-pub verdict-known : (v w : Verdict) → verdictNumber v ≡ verdictNumber w → v ≡ w
-verdict-known v w e = sym (found v) ∙ ap (λ (n : ℕ). get_or byNumber n Accepted) e ∙ found w
+pub verdict_known : (v w : Verdict) → verdict_number v ≡ verdict_number w → v ≡ w
+verdict_known v w e = sym (found v) ∙ ap (λ (n : ℕ). get_or by_number n Accepted) e ∙ found w
 
-pub parameter-known : (p q : Parameter) → parameterNumber p ≡ parameterNumber q → p ≡ q
-parameter-known p q e = let same : Refused p ≡ Refused q = verdict-known (Refused p) (Refused q) e in cc
+pub parameter_known : (p q : Parameter) → parameter_number p ≡ parameter_number q → p ≡ q
+parameter_known p q e = let same : Refused p ≡ Refused q = verdict_known (Refused p) (Refused q) e in cc
 
-pub verdict-settled : (order : List Check) (v w : Verdict) → FirstOf order (verdictNumber v) → FirstOf order (verdictNumber w) → v ≡ w
-verdict-settled order v w p q = verdict-known v w (first-unique order (verdictNumber v) (verdictNumber w) p q)
+pub verdict_settled : (order : List Check) (v w : Verdict) → FirstOf order (verdict_number v) → FirstOf order (verdict_number w) → v ≡ w
+verdict_settled order v w p q = verdict_known v w (first_unique order (verdict_number v) (verdict_number w) p q)
 
 -- ---- so each call is settled
 
 -- a flag that tells a fact is settled
-pub flag-settled : (fact : Type 0) (a b : Bool) → Tells a fact → Tells b fact → a ≡ b
-flag-settled fact true true t u = refl
-flag-settled fact true false t u = absurd (u t)
-flag-settled fact false true t u = absurd (t u)
-flag-settled fact false false t u = refl
+pub flag_settled : (fact : Type 0) (a b : Bool) → Tells a fact → Tells b fact → a ≡ b
+flag_settled fact true true t u = refl
+flag_settled fact true false t u = absurd (u t)
+flag_settled fact false true t u = absurd (t u)
+flag_settled fact false false t u = refl
 
-pub strength-legal-settled : (e : ℕ) (a b : Bool) → Tells a (OneOf strengths e) → Tells b (OneOf strengths e) → a ≡ b
-strength-legal-settled e = flag-settled (OneOf strengths e)
+pub strength_legal_settled : (e : ℕ) (a b : Bool) → Tells a (OneOf strengths e) → Tells b (OneOf strengths e) → a ≡ b
+strength_legal_settled e = flag_settled (OneOf strengths e)
 
 module _ (v w : Verdict) where
   abbrev Settled : List Check → Type 0
-  Settled order = FirstOf order (verdictNumber v) → FirstOf order (verdictNumber w) → v ≡ w
+  Settled order = FirstOf order (verdict_number v) → FirstOf order (verdict_number w) → v ≡ w
 
-  pub encode-parameters-settled : (e i q frame block : ℕ) → Settled (encodeOrder e i q frame block)
-  encode-parameters-settled e i q frame block = verdict-settled (encodeOrder e i q frame block) v w
+  pub encode_parameters_settled : (e i q frame block : ℕ) → Settled (encode_order e i q frame block)
+  encode_parameters_settled e i q frame block = verdict_settled (encode_order e i q frame block) v w
 
-  pub portion-parameters-settled : (e i q portion written place : ℕ) (closed : Bool) → Settled (portionOrder e i q portion written place closed)
-  portion-parameters-settled e i q portion written place closed = verdict-settled (portionOrder e i q portion written place closed) v w
+  pub portion_parameters_settled : (e i q portion written place : ℕ) (closed : Bool) → Settled (portion_order e i q portion written place closed)
+  portion_parameters_settled e i q portion written place closed = verdict_settled (portion_order e i q portion written place closed) v w
 
-  pub close-parameters-settled : (e i q checks place : ℕ) (closed : Bool) → Settled (closeOrder e i q checks place closed)
-  close-parameters-settled e i q checks place closed = verdict-settled (closeOrder e i q checks place closed) v w
+  pub close_parameters_settled : (e i q checks place : ℕ) (closed : Bool) → Settled (close_order e i q checks place closed)
+  close_parameters_settled e i q checks place closed = verdict_settled (close_order e i q checks place closed) v w
 
-  pub transmit-parameters-settled : (e i q frame marked : ℕ) → Settled (transmitOrder e i q frame marked)
-  transmit-parameters-settled e i q frame marked = verdict-settled (transmitOrder e i q frame marked) v w
+  pub transmit_parameters_settled : (e i q frame marked : ℕ) → Settled (transmit_order e i q frame marked)
+  transmit_parameters_settled e i q frame marked = verdict_settled (transmit_order e i q frame marked) v w
 
-  pub decode-parameters-settled : (e i q s block frame : ℕ) → Settled (decodeParameters e i q s block frame)
-  decode-parameters-settled e i q s block frame = verdict-settled (decodeParameters e i q s block frame) v w
+  pub decode_parameters_settled : (e i q s block frame : ℕ) → Settled (decode_parameters e i q s block frame)
+  decode_parameters_settled e i q s block frame = verdict_settled (decode_parameters e i q s block frame) v w
 
-  pub salvage-parameters-settled : (e i q s block frame list : ℕ) → Settled (salvageOrder e i q s block frame list)
-  salvage-parameters-settled e i q s block frame list = verdict-settled (salvageOrder e i q s block frame list) v w
+  pub salvage_parameters_settled : (e i q s block frame list : ℕ) → Settled (salvage_order e i q s block frame list)
+  salvage_parameters_settled e i q s block frame list = verdict_settled (salvage_order e i q s block frame list) v w
 
-  pub receive-parameters-settled : (e i q s t marked frame : ℕ) → Settled (receiveParameters e i q s t marked frame)
-  receive-parameters-settled e i q s t marked frame = verdict-settled (receiveParameters e i q s t marked frame) v w
+  pub receive_parameters_settled : (e i q s t marked frame : ℕ) → Settled (receive_parameters e i q s t marked frame)
+  receive_parameters_settled e i q s t marked frame = verdict_settled (receive_parameters e i q s t marked frame) v w
 
-  pub randomise-parameters-settled : (block : ℕ) → Settled (randomiseOrder block)
-  randomise-parameters-settled block = verdict-settled (randomiseOrder block) v w
+  pub randomise_parameters_settled : (block : ℕ) → Settled (randomise_order block)
+  randomise_parameters_settled block = verdict_settled (randomise_order block) v w
 
-  pub convolve-parameters-settled : (r bits at held octets symbols : ℕ) → Settled (convolveOrder r bits at held octets symbols)
-  convolve-parameters-settled r bits at held octets symbols = verdict-settled (convolveOrder r bits at held octets symbols) v w
+  pub convolve_parameters_settled : (r bits at held octets symbols : ℕ) → Settled (convolve_order r bits at held octets symbols)
+  convolve_parameters_settled r bits at held octets symbols = verdict_settled (convolve_order r bits at held octets symbols) v w
 
-  pub coder-close-parameters-settled : (r bits at held symbols : ℕ) → Settled (coderCloseOrder r bits at held symbols)
-  coder-close-parameters-settled r bits at held symbols = verdict-settled (coderCloseOrder r bits at held symbols) v w
+  pub coder_close_parameters_settled : (r bits at held symbols : ℕ) → Settled (coder_close_order r bits at held symbols)
+  coder_close_parameters_settled r bits at held symbols = verdict_settled (coder_close_order r bits at held symbols) v w
 
-  pub likeliest-parameters-settled : (bits symbols octets : ℕ) → Settled (likeliestOrder bits symbols octets)
-  likeliest-parameters-settled bits symbols octets = verdict-settled (likeliestOrder bits symbols octets) v w
+  pub likeliest_parameters_settled : (bits symbols octets : ℕ) → Settled (likeliest_order bits symbols octets)
+  likeliest_parameters_settled bits symbols octets = verdict_settled (likeliest_order bits symbols octets) v w
 
-  pub marker-parameters-settled : (t octets : ℕ) → Settled (markerParameters t octets)
-  marker-parameters-settled t octets = verdict-settled (markerParameters t octets) v w
+  pub marker_parameters_settled : (t octets : ℕ) → Settled (marker_parameters t octets)
+  marker_parameters_settled t octets = verdict_settled (marker_parameters t octets) v w
 
-  pub search-parameters-settled : (t stream from : ℕ) → Settled (searchOrder t stream from)
-  search-parameters-settled t stream from = verdict-settled (searchOrder t stream from) v w
+  pub search_parameters_settled : (t stream from : ℕ) → Settled (search_order t stream from)
+  search_parameters_settled t stream from = verdict_settled (search_order t stream from) v w
 
 -- ---- so is each number
 
 module _ (m n : ℕ) where
-  pub parameter-number-settled : (p : Parameter) → m ≡ parameterNumber p → n ≡ parameterNumber p → m ≡ n
-  parameter-number-settled p a b = a ∙ sym b
+  pub parameter_number_settled : (p : Parameter) → m ≡ parameter_number p → n ≡ parameter_number p → m ≡ n
+  parameter_number_settled p a b = a ∙ sym b
 
-  pub verdict-number-settled : (v : Verdict) → m ≡ verdictNumber v → n ≡ verdictNumber v → m ≡ n
-  verdict-number-settled v a b = a ∙ sym b
+  pub verdict_number_settled : (v : Verdict) → m ≡ verdict_number v → n ≡ verdict_number v → m ≡ n
+  verdict_number_settled v a b = a ∙ sym b
 
-  pub marker-number-settled : (r : MarkerRefusal) → m ≡ markerNumber r → n ≡ markerNumber r → m ≡ n
-  marker-number-settled r a b = a ∙ sym b
+  pub marker_number_settled : (r : MarkerRefusal) → m ≡ marker_number r → n ≡ marker_number r → m ≡ n
+  marker_number_settled r a b = a ∙ sym b

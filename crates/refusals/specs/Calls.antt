@@ -2,7 +2,7 @@
 -- (ii), (iii), (vi) and (vii)).
 use Rattle.std.specs.Prelude.{◌≡◌, Bool, true, ◌≢◌, ◌⊎◌, List, [], ◌∷◌, ◌++◌, ℕ, ◌+◌, ◌-◌, ◌*◌, ◌/◌, ◌%◌, ◌≤◌, ◌<◌}
 use Rattle.refusals.specs.Order.{Check, OneOf}
-use Rattle.refusals.specs.Sizes.{strengths, depths, rates, period, information, frameLength, blockLength, checksLength, markedLength, symbolCount, octetsFor}
+use Rattle.refusals.specs.Sizes.{strengths, depths, rates, period, information, frame_length, block_length, checks_length, marked_length, symbol_count, octets_for}
 
 -- The checks, each with its number; 5 has three forms, for a length that is not the one required, for one over the limit, and for one that is odd
 -- or over the limit, and 7 four, for the rate and for the coder's state: a register over six bits, a place that the period does not have, more than
@@ -22,11 +22,11 @@ allowance e s = (4, e < s)
 abbrev pub input : ℕ → ℕ → Check
 input len required = (5, len ≢ required)
 
-abbrev pub inputOver : ℕ → ℕ → Check
-inputOver limit len = (5, limit < len)
+abbrev pub input_over : ℕ → ℕ → Check
+input_over limit len = (5, limit < len)
 
-abbrev pub inputOddOrOver : ℕ → ℕ → Check
-inputOddOrOver limit len = (5, (len % 2 ≡ 1) ⊎ (limit < len))
+abbrev pub input_odd_or_over : ℕ → ℕ → Check
+input_odd_or_over limit len = (5, (len % 2 ≡ 1) ⊎ (limit < len))
 
 abbrev pub output : ℕ → ℕ → Check
 output len required = (6, len ≢ required)
@@ -64,59 +64,59 @@ unfinished closed place frame = (14, (closed ≡ true) ⊎ (place ≢ frame))
 
 -- The orders. A length is called by what it is the length of; `wrong` is the wrong bits of the four marker octets, and
 -- `uncorrectable` says that some word has no codeword with an all-zero fill within the allowance.
-abbrev pub encodeOrder : ℕ → ℕ → ℕ → ℕ → ℕ → List Check
-encodeOrder e i q frame block = strength e ∷ depth i ∷ fill e q ∷ input frame (frameLength e i q) ∷ output block (blockLength i q) ∷ []
+abbrev pub encode_order : ℕ → ℕ → ℕ → ℕ → ℕ → List Check
+encode_order e i q frame block = strength e ∷ depth i ∷ fill e q ∷ input frame (frame_length e i q) ∷ output block (block_length i q) ∷ []
 
-abbrev pub portionOrder : ℕ → ℕ → ℕ → ℕ → ℕ → ℕ → Bool → List Check
-portionOrder e i q portion written place closed =
-    strength e ∷ depth i ∷ fill e q ∷ inputOver 300 portion ∷ output written portion ∷ passing closed (place + portion) (frameLength e i q) ∷ []
+abbrev pub portion_order : ℕ → ℕ → ℕ → ℕ → ℕ → ℕ → Bool → List Check
+portion_order e i q portion written place closed =
+    strength e ∷ depth i ∷ fill e q ∷ input_over 300 portion ∷ output written portion ∷ passing closed (place + portion) (frame_length e i q) ∷ []
 
-abbrev pub closeOrder : ℕ → ℕ → ℕ → ℕ → ℕ → Bool → List Check
-closeOrder e i q checks place closed =
-    strength e ∷ depth i ∷ fill e q ∷ output checks (checksLength e i) ∷ unfinished closed place (frameLength e i q) ∷ []
+abbrev pub close_order : ℕ → ℕ → ℕ → ℕ → ℕ → Bool → List Check
+close_order e i q checks place closed =
+    strength e ∷ depth i ∷ fill e q ∷ output checks (checks_length e i) ∷ unfinished closed place (frame_length e i q) ∷ []
 
-abbrev pub decodeParameters : ℕ → ℕ → ℕ → ℕ → ℕ → ℕ → List Check
-decodeParameters e i q s block frame =
-    strength e ∷ depth i ∷ fill e q ∷ allowance e s ∷ input block (blockLength i q) ∷ output frame (frameLength e i q) ∷ []
+abbrev pub decode_parameters : ℕ → ℕ → ℕ → ℕ → ℕ → ℕ → List Check
+decode_parameters e i q s block frame =
+    strength e ∷ depth i ∷ fill e q ∷ allowance e s ∷ input block (block_length i q) ∷ output frame (frame_length e i q) ∷ []
 
-abbrev pub decodeOrder : ℕ → ℕ → ℕ → ℕ → ℕ → ℕ → Type 0 → List Check
-decodeOrder e i q s block frame uncorrectable = decodeParameters e i q s block frame ++ (word uncorrectable ∷ [])
+abbrev pub decode_order : ℕ → ℕ → ℕ → ℕ → ℕ → ℕ → Type 0 → List Check
+decode_order e i q s block frame uncorrectable = decode_parameters e i q s block frame ++ (word uncorrectable ∷ [])
 
 -- Salvage checks as decode does before it decodes, then its list: four octets for each octet of the block.
-abbrev pub salvageOrder : ℕ → ℕ → ℕ → ℕ → ℕ → ℕ → ℕ → List Check
-salvageOrder e i q s block frame list = decodeParameters e i q s block frame ++ (output list (4 * blockLength i q) ∷ [])
+abbrev pub salvage_order : ℕ → ℕ → ℕ → ℕ → ℕ → ℕ → ℕ → List Check
+salvage_order e i q s block frame list = decode_parameters e i q s block frame ++ (output list (4 * block_length i q) ∷ [])
 
-abbrev pub randomiseOrder : ℕ → List Check
-randomiseOrder block = inputOver 2040 block ∷ []
+abbrev pub randomise_order : ℕ → List Check
+randomise_order block = input_over 2040 block ∷ []
 
 -- A call of the coder gives the whole octets of the symbols held and its own; a close gives one octet if any are held.
-abbrev pub convolveOrder : ℕ → ℕ → ℕ → ℕ → ℕ → ℕ → List Check
-convolveOrder r bits at held octets symbols =
-    rate r ∷ register bits ∷ place r at ∷ holding held ∷ inputOver 2044 octets ∷ output symbols ((held + symbolCount r at octets) / 8) ∷ []
+abbrev pub convolve_order : ℕ → ℕ → ℕ → ℕ → ℕ → ℕ → List Check
+convolve_order r bits at held octets symbols =
+    rate r ∷ register bits ∷ place r at ∷ holding held ∷ input_over 2044 octets ∷ output symbols ((held + symbol_count r at octets) / 8) ∷ []
 
-abbrev pub coderCloseOrder : ℕ → ℕ → ℕ → ℕ → ℕ → List Check
-coderCloseOrder r bits at held symbols = rate r ∷ register bits ∷ place r at ∷ holding held ∷ output symbols (octetsFor held) ∷ []
+abbrev pub coder_close_order : ℕ → ℕ → ℕ → ℕ → ℕ → List Check
+coder_close_order r bits at held symbols = rate r ∷ register bits ∷ place r at ∷ holding held ∷ output symbols (octets_for held) ∷ []
 
 -- The likeliest data are half as many octets as the symbols that they are sought for.
-abbrev pub likeliestOrder : ℕ → ℕ → ℕ → List Check
-likeliestOrder bits symbols octets = register bits ∷ inputOddOrOver 512 symbols ∷ output octets (symbols / 2) ∷ []
+abbrev pub likeliest_order : ℕ → ℕ → ℕ → List Check
+likeliest_order bits symbols octets = register bits ∷ input_odd_or_over 512 symbols ∷ output octets (symbols / 2) ∷ []
 
-abbrev pub markerParameters : ℕ → ℕ → List Check
-markerParameters t octets = tolerance t ∷ input octets 4 ∷ []
+abbrev pub marker_parameters : ℕ → ℕ → List Check
+marker_parameters t octets = tolerance t ∷ input octets 4 ∷ []
 
-abbrev pub markerOrder : ℕ → ℕ → ℕ → List Check
-markerOrder t octets wrong = markerParameters t octets ++ (marker t wrong ∷ [])
+abbrev pub marker_order : ℕ → ℕ → ℕ → List Check
+marker_order t octets wrong = marker_parameters t octets ++ (marker t wrong ∷ [])
 
-abbrev pub searchOrder : ℕ → ℕ → ℕ → List Check
-searchOrder t stream from = tolerance t ∷ inputOver 65536 stream ∷ start from stream ∷ []
+abbrev pub search_order : ℕ → ℕ → ℕ → List Check
+search_order t stream from = tolerance t ∷ input_over 65536 stream ∷ start from stream ∷ []
 
-abbrev pub transmitOrder : ℕ → ℕ → ℕ → ℕ → ℕ → List Check
-transmitOrder e i q frame marked = strength e ∷ depth i ∷ fill e q ∷ input frame (frameLength e i q) ∷ output marked (markedLength i q) ∷ []
+abbrev pub transmit_order : ℕ → ℕ → ℕ → ℕ → ℕ → List Check
+transmit_order e i q frame marked = strength e ∷ depth i ∷ fill e q ∷ input frame (frame_length e i q) ∷ output marked (marked_length i q) ∷ []
 
-abbrev pub receiveParameters : ℕ → ℕ → ℕ → ℕ → ℕ → ℕ → ℕ → List Check
-receiveParameters e i q s t marked frame =
-    strength e ∷ depth i ∷ fill e q ∷ allowance e s ∷ tolerance t ∷ input marked (markedLength i q) ∷ output frame (frameLength e i q) ∷ []
+abbrev pub receive_parameters : ℕ → ℕ → ℕ → ℕ → ℕ → ℕ → ℕ → List Check
+receive_parameters e i q s t marked frame =
+    strength e ∷ depth i ∷ fill e q ∷ allowance e s ∷ tolerance t ∷ input marked (marked_length i q) ∷ output frame (frame_length e i q) ∷ []
 
-abbrev pub receiveOrder : ℕ → ℕ → ℕ → ℕ → ℕ → ℕ → ℕ → ℕ → Type 0 → List Check
-receiveOrder e i q s t marked frame wrong uncorrectable =
-    receiveParameters e i q s t marked frame ++ (marker t wrong ∷ word uncorrectable ∷ [])
+abbrev pub receive_order : ℕ → ℕ → ℕ → ℕ → ℕ → ℕ → ℕ → ℕ → Type 0 → List Check
+receive_order e i q s t marked frame wrong uncorrectable =
+    receive_parameters e i q s t marked frame ++ (marker t wrong ∷ word uncorrectable ∷ [])

@@ -9,35 +9,35 @@ use Rattle.refusals.specs.declared.MarkerRefusal.TheVariants as marker
 use Rattle.refusals.specs.declared.WordRefusal.{WordRefusal}
 use Rattle.refusals.specs.declared.WordRefusal.TheVariants as word
 
-abbrev pub parameterNumber : Parameter → ℕ
-parameterNumber Strength = 1
-parameterNumber Depth = 2
-parameterNumber Fill = 3
-parameterNumber Allowance = 4
-parameterNumber Input = 5
-parameterNumber Output = 6
-parameterNumber Rate = 7
-parameterNumber Tolerance = 8
-parameterNumber Start = 11
-parameterNumber Progress = 14
+abbrev pub parameter_number : Parameter → ℕ
+parameter_number Strength = 1
+parameter_number Depth = 2
+parameter_number Fill = 3
+parameter_number Allowance = 4
+parameter_number Input = 5
+parameter_number Output = 6
+parameter_number Rate = 7
+parameter_number Tolerance = 8
+parameter_number Start = 11
+parameter_number Progress = 14
 
-abbrev pub verdictNumber : Verdict → ℕ
-verdictNumber Accepted = 0
-verdictNumber (Refused p) = parameterNumber p
+abbrev pub verdict_number : Verdict → ℕ
+verdict_number Accepted = 0
+verdict_number (Refused p) = parameter_number p
 
 -- Refusal 9 carries the wrong bits, refusal 10 the word; the others carry nothing.
-abbrev pub markerNumber : MarkerRefusal → ℕ
-markerNumber (marker.Parameters p) = parameterNumber p
-markerNumber (marker.WrongBits wrong) = 9
+abbrev pub marker_number : MarkerRefusal → ℕ
+marker_number (marker.Parameters p) = parameter_number p
+marker_number (marker.WrongBits wrong) = 9
 
-abbrev pub markerValue : MarkerRefusal → ℕ
-markerValue (marker.Parameters p) = 0
-markerValue (marker.WrongBits wrong) = wrong
+abbrev pub marker_value : MarkerRefusal → ℕ
+marker_value (marker.Parameters p) = 0
+marker_value (marker.WrongBits wrong) = wrong
 
-abbrev pub wordNumber : WordRefusal → ℕ
-wordNumber (word.Parameters p) = parameterNumber p
-wordNumber (word.NoCodeword w) = 10
+abbrev pub word_number : WordRefusal → ℕ
+word_number (word.Parameters p) = parameter_number p
+word_number (word.NoCodeword w) = 10
 
-abbrev pub wordValue : WordRefusal → ℕ
-wordValue (word.Parameters p) = 0
-wordValue (word.NoCodeword w) = w
+abbrev pub word_value : WordRefusal → ℕ
+word_value (word.Parameters p) = 0
+word_value (word.NoCodeword w) = w

@@ -1,10 +1,10 @@
 // Each call's checks of parameters and lengths, in the order of document 01; the coder's are in `coder`.
 ghost use Rattle.std.specs.Prelude.{◌≡◌, [], ◌∷◌, ◌++◌, ◌+◌, ◌*◌, ◌≤◌};
 ghost use Rattle.refusals.specs.Order.{FirstOf, OneOf, Tells};
-ghost use Rattle.refusals.specs.Sizes.{strengths, depths, frameLength, blockLength};
-ghost use Rattle.refusals.specs.Numbers.{verdictNumber};
-ghost use Rattle.refusals.specs.Calls.{input, output, encodeOrder, decodeParameters, randomiseOrder, markerParameters, searchOrder, transmitOrder, receiveParameters};
-ghost use Rattle.refusals.specs.Working.{wordParameters, allowedParameters};
+ghost use Rattle.refusals.specs.Sizes.{strengths, depths, frame_length, block_length};
+ghost use Rattle.refusals.specs.Numbers.{verdict_number};
+ghost use Rattle.refusals.specs.Calls.{input, output, encode_order, decode_parameters, randomise_order, marker_parameters, search_order, transmit_order, receive_parameters};
+ghost use Rattle.refusals.specs.Working.{word_parameters, allowed_parameters};
 
 use crate::{Parameter, Verdict};
 
@@ -37,7 +37,7 @@ fn depth_legal(depth: u32) -> bool
 
 // Checks 1, 2 and 3, with which every call on words begins.
 pub(crate) fn word_parameters(e: u32, depth: u32, fill: u32) -> Verdict
-    ensures { FirstOf (wordParameters e depth fill) (verdictNumber result) }
+    ensures { FirstOf (word_parameters e depth fill) (verdict_number result) }
 {
     if !strength_legal(e) {
         return Verdict::Refused(Parameter::Strength);
@@ -58,7 +58,7 @@ fn lengths(
     given_output: usize,
     required_output: usize,
 ) -> Verdict
-    ensures { FirstOf (input given_input required_input ∷ output given_output required_output ∷ []) (verdictNumber result) }
+    ensures { FirstOf (input given_input required_input ∷ output given_output required_output ∷ []) (verdict_number result) }
 {
     if given_input != required_input {
         return Verdict::Refused(Parameter::Input);
@@ -78,15 +78,15 @@ pub(crate) fn interleaved(symbols: u32, depth: u32) -> usize
 }
 
 pub(crate) fn frame_length(e: u32, depth: u32, fill: u32) -> usize
-    requires { FirstOf (wordParameters e depth fill) 0 }
-    ensures { result ≡ frameLength e depth fill }
+    requires { FirstOf (word_parameters e depth fill) 0 }
+    ensures { result ≡ frame_length e depth fill }
 {
     interleaved(255 - 2 * e - fill, depth)
 }
 
 pub(crate) fn block_length(e: u32, depth: u32, fill: u32) -> usize
-    requires { FirstOf (wordParameters e depth fill) 0 }
-    ensures { (result ≡ blockLength depth fill) × (result ≤ 2040) }
+    requires { FirstOf (word_parameters e depth fill) 0 }
+    ensures { (result ≡ block_length depth fill) × (result ≤ 2040) }
 {
     interleaved(255 - fill, depth)
 }
@@ -94,7 +94,7 @@ pub(crate) fn block_length(e: u32, depth: u32, fill: u32) -> usize
 // Checks 1, 2, 3, 5 and 6 of a call that takes a frame and gives a block with so many octets in front.
 fn outgoing(e: u32, depth: u32, fill: u32, frame: usize, out: usize, front: usize) -> Verdict
     requires { front ≤ 4 }
-    ensures { FirstOf (wordParameters e depth fill ++ (input frame (frameLength e depth fill) ∷ output out (blockLength depth fill + front) ∷ [])) (verdictNumber result) }
+    ensures { FirstOf (word_parameters e depth fill ++ (input frame (frame_length e depth fill) ∷ output out (block_length depth fill + front) ∷ [])) (verdict_number result) }
 {
     let word = word_parameters(e, depth, fill);
     if let Verdict::Refused(p) = word {
@@ -105,20 +105,20 @@ fn outgoing(e: u32, depth: u32, fill: u32, frame: usize, out: usize, front: usiz
 }
 
 pub fn encode_parameters(e: u32, depth: u32, fill: u32, frame: usize, block: usize) -> Verdict
-    ensures { FirstOf (encodeOrder e depth fill frame block) (verdictNumber result) }
+    ensures { FirstOf (encode_order e depth fill frame block) (verdict_number result) }
 {
     outgoing(e, depth, fill, frame, block, 0)
 }
 
 pub fn transmit_parameters(e: u32, depth: u32, fill: u32, frame: usize, marked: usize) -> Verdict
-    ensures { FirstOf (transmitOrder e depth fill frame marked) (verdictNumber result) }
+    ensures { FirstOf (transmit_order e depth fill frame marked) (verdict_number result) }
 {
     outgoing(e, depth, fill, frame, marked, 4)
 }
 
 // Checks 1 to 4, with which every call that takes a block begins.
 fn allowed_parameters(e: u32, depth: u32, fill: u32, s: u32) -> Verdict
-    ensures { FirstOf (allowedParameters e depth fill s) (verdictNumber result) }
+    ensures { FirstOf (allowed_parameters e depth fill s) (verdict_number result) }
 {
     let word = word_parameters(e, depth, fill);
     if let Verdict::Refused(p) = word {
@@ -138,7 +138,7 @@ pub fn decode_parameters(
     block: usize,
     frame: usize,
 ) -> Verdict
-    ensures { FirstOf (decodeParameters e depth fill s block frame) (verdictNumber result) }
+    ensures { FirstOf (decode_parameters e depth fill s block frame) (verdict_number result) }
 {
     let allowed = allowed_parameters(e, depth, fill, s);
     if let Verdict::Refused(p) = allowed {
@@ -157,7 +157,7 @@ pub fn receive_parameters(
     marked: usize,
     frame: usize,
 ) -> Verdict
-    ensures { FirstOf (receiveParameters e depth fill s tolerance marked frame) (verdictNumber result) }
+    ensures { FirstOf (receive_parameters e depth fill s tolerance marked frame) (verdict_number result) }
 {
     let allowed = allowed_parameters(e, depth, fill, s);
     if let Verdict::Refused(p) = allowed {
@@ -171,7 +171,7 @@ pub fn receive_parameters(
 }
 
 pub fn randomise_parameters(block: usize) -> Verdict
-    ensures { FirstOf (randomiseOrder block) (verdictNumber result) }
+    ensures { FirstOf (randomise_order block) (verdict_number result) }
 {
     if block > 2040 {
         return Verdict::Refused(Parameter::Input);
@@ -180,7 +180,7 @@ pub fn randomise_parameters(block: usize) -> Verdict
 }
 
 pub fn marker_parameters(tolerance: u32, octets: usize) -> Verdict
-    ensures { FirstOf (markerParameters tolerance octets) (verdictNumber result) }
+    ensures { FirstOf (marker_parameters tolerance octets) (verdict_number result) }
 {
     if tolerance > 3 {
         return Verdict::Refused(Parameter::Tolerance);
@@ -192,7 +192,7 @@ pub fn marker_parameters(tolerance: u32, octets: usize) -> Verdict
 }
 
 pub fn search_parameters(tolerance: u32, stream: usize, start: u64) -> Verdict
-    ensures { FirstOf (searchOrder tolerance stream start) (verdictNumber result) }
+    ensures { FirstOf (search_order tolerance stream start) (verdict_number result) }
 {
     if tolerance > 3 {
         return Verdict::Refused(Parameter::Tolerance);

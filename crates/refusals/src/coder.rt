@@ -1,10 +1,10 @@
 // The checks of the convolutional coder's two calls: its rate and its state, then the lengths.
 ghost use Rattle.std.specs.Prelude.{◌≡◌, ◌≤◌, ◌<◌};
 ghost use Rattle.refusals.specs.Order.{FirstOf, OneOf, Tells};
-ghost use Rattle.refusals.specs.Sizes.{rates, period, symbolCount};
-ghost use Rattle.refusals.specs.Numbers.{verdictNumber};
-ghost use Rattle.refusals.specs.Calls.{convolveOrder, coderCloseOrder};
-ghost use Rattle.refusals.specs.Working.{coderParameters};
+ghost use Rattle.refusals.specs.Sizes.{rates, period, symbol_count};
+ghost use Rattle.refusals.specs.Numbers.{verdict_number};
+ghost use Rattle.refusals.specs.Calls.{convolve_order, coder_close_order};
+ghost use Rattle.refusals.specs.Working.{coder_parameters};
 
 use crate::{Parameter, Verdict};
 
@@ -35,7 +35,7 @@ fn period_of(rate: u32) -> u8
 
 // Check 7 in its four forms, with which both calls begin.
 fn coder_parameters(rate: u32, register: u8, place: u8, holds: u8) -> Verdict
-    ensures { FirstOf (coderParameters rate register place holds) (verdictNumber result) }
+    ensures { FirstOf (coder_parameters rate register place holds) (verdict_number result) }
 {
     if !rate_legal(rate) {
         return Verdict::Refused(Parameter::Rate);
@@ -55,7 +55,7 @@ fn coder_parameters(rate: u32, register: u8, place: u8, holds: u8) -> Verdict
 // One symbol for each bit, and one more for each period that begins.
 fn symbols_of(rate: u32, place: u8, octets: usize) -> usize
     requires { OneOf rates rate × (place < period rate) × (octets ≤ 2044) }
-    ensures { (result ≡ symbolCount rate place octets) × (result ≤ 32704) }
+    ensures { (result ≡ symbol_count rate place octets) × (result ≤ 32704) }
 {
     let start = place as usize;
     let bits = 8 * octets;
@@ -76,7 +76,7 @@ pub fn convolve_parameters(
     octets: usize,
     symbols: usize,
 ) -> Verdict
-    ensures { FirstOf (convolveOrder rate register place holds octets symbols) (verdictNumber result) }
+    ensures { FirstOf (convolve_order rate register place holds octets symbols) (verdict_number result) }
 {
     let coder = coder_parameters(rate, register, place, holds);
     if let Verdict::Refused(p) = coder {
@@ -98,7 +98,7 @@ pub fn coder_close_parameters(
     holds: u8,
     symbols: usize,
 ) -> Verdict
-    ensures { FirstOf (coderCloseOrder rate register place holds symbols) (verdictNumber result) }
+    ensures { FirstOf (coder_close_order rate register place holds symbols) (verdict_number result) }
 {
     let coder = coder_parameters(rate, register, place, holds);
     if let Verdict::Refused(p) = coder {

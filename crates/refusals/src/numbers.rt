@@ -1,11 +1,11 @@
 // The number of each refusal.
 ghost use Rattle.std.specs.Prelude.{◌≡◌};
-ghost use Rattle.refusals.specs.Numbers.{parameterNumber, verdictNumber, markerNumber};
+ghost use Rattle.refusals.specs.Numbers.{parameter_number, verdict_number, marker_number};
 
 use crate::{MarkerRefusal, Parameter, Verdict};
 
 pub fn parameter_number(p: Parameter) -> u64
-    ensures { result ≡ parameterNumber p }
+    ensures { result ≡ parameter_number p }
 {
     match p {
         Parameter::Strength => 1,
@@ -22,7 +22,7 @@ pub fn parameter_number(p: Parameter) -> u64
 }
 
 pub fn verdict_number(verdict: Verdict) -> u64
-    ensures { result ≡ verdictNumber verdict }
+    ensures { result ≡ verdict_number verdict }
 {
     match verdict {
         Verdict::Accepted => 0,
@@ -31,7 +31,7 @@ pub fn verdict_number(verdict: Verdict) -> u64
 }
 
 pub fn marker_number(refusal: MarkerRefusal) -> u64
-    ensures { result ≡ markerNumber refusal }
+    ensures { result ≡ marker_number refusal }
 {
     match refusal {
         MarkerRefusal::Parameters(p) => parameter_number(p),

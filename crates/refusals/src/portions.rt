@@ -1,17 +1,17 @@
 // The checks of a frame that comes in portions, in the orders of document 02, (ii).
 ghost use Rattle.std.specs.Prelude.{◌≡◌, true, ◌≢◌, ◌⊎◌, [], ◌∷◌, ◌<◌};
 ghost use Rattle.refusals.specs.Order.{FirstOf, Tells};
-ghost use Rattle.refusals.specs.Sizes.{checksLength};
-ghost use Rattle.refusals.specs.Numbers.{verdictNumber};
-ghost use Rattle.refusals.specs.Calls.{output, portionOrder, closeOrder};
-ghost use Rattle.refusals.specs.Working.{wordParameters};
+ghost use Rattle.refusals.specs.Sizes.{checks_length};
+ghost use Rattle.refusals.specs.Numbers.{verdict_number};
+ghost use Rattle.refusals.specs.Calls.{output, portion_order, close_order};
+ghost use Rattle.refusals.specs.Working.{word_parameters};
 
 use crate::checks::{frame_length, interleaved, word_parameters};
 use crate::{Parameter, Verdict};
 
 fn checks_length(e: u32, depth: u32, fill: u32) -> usize
-    requires { FirstOf (wordParameters e depth fill) 0 }
-    ensures { result ≡ checksLength e depth }
+    requires { FirstOf (word_parameters e depth fill) 0 }
+    ensures { result ≡ checks_length e depth }
 {
     interleaved(2 * e, depth)
 }
@@ -44,7 +44,7 @@ fn out_of_place(closed: bool, place: usize, frame: usize) -> bool
 
 // Checks 6 and 14, in which both calls end.
 fn at_last(given: usize, required: usize, unfit: bool) -> Verdict
-    ensures { FirstOf (output «given» «required» ∷ (14, (unfit ≡ true)) ∷ []) (verdictNumber result) }
+    ensures { FirstOf (output «given» «required» ∷ (14, (unfit ≡ true)) ∷ []) (verdict_number result) }
 {
     if given != required {
         return Verdict::Refused(Parameter::Output);
@@ -64,7 +64,7 @@ pub fn portion_parameters(
     place: u32,
     closed: bool,
 ) -> Verdict
-    ensures { FirstOf (portionOrder e depth fill portion written place closed) (verdictNumber result) }
+    ensures { FirstOf (portion_order e depth fill portion written place closed) (verdict_number result) }
 {
     let word = word_parameters(e, depth, fill);
     if let Verdict::Refused(p) = word {
@@ -89,7 +89,7 @@ pub fn close_parameters(
     place: u32,
     closed: bool,
 ) -> Verdict
-    ensures { FirstOf (closeOrder e depth fill checks place closed) (verdictNumber result) }
+    ensures { FirstOf (close_order e depth fill checks place closed) (verdict_number result) }
 {
     let word = word_parameters(e, depth, fill);
     if let Verdict::Refused(p) = word {

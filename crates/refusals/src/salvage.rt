@@ -1,7 +1,7 @@
 // The checks of salvage: decode's before it decodes, then the list.
 ghost use Rattle.refusals.specs.Order.{FirstOf};
-ghost use Rattle.refusals.specs.Numbers.{verdictNumber};
-ghost use Rattle.refusals.specs.Calls.{salvageOrder};
+ghost use Rattle.refusals.specs.Numbers.{verdict_number};
+ghost use Rattle.refusals.specs.Calls.{salvage_order};
 
 use crate::checks::{block_length, decode_parameters};
 use crate::{Parameter, Verdict};
@@ -16,7 +16,7 @@ pub fn salvage_parameters(
     frame: usize,
     list: usize,
 ) -> Verdict
-    ensures { FirstOf (salvageOrder e depth fill s block frame list) (verdictNumber result) }
+    ensures { FirstOf (salvage_order e depth fill s block frame list) (verdict_number result) }
 {
     let decoded = decode_parameters(e, depth, fill, s, block, frame);
     if let Verdict::Refused(p) = decoded {

@@ -34,9 +34,9 @@ pasted before content more is =
     ap₂ {C = List ℕ} (λ (u v : List ℕ). u ++ v) (ap₂ {C = List ℕ} (λ (u v : List ℕ). u ++ v) front (take-length more)) back
 
 -- One octet more is pasted.
-pub pasted-more : (before after : List ℕ) (at : ℕ) (more : List ℕ) (i : ℕ) → after ≡ paste before at more i → at + i < length before → i < length more
+pub pasted_more : (before after : List ℕ) (at : ℕ) (more : List ℕ) (i : ℕ) → after ≡ paste before at more i → at + i < length before → i < length more
     → set after (at + i) (get_or more i 0) ≡ paste before at more (i + 1)
-pasted-more before after at more i is room fits =
+pasted_more before after at more i is room fits =
     ap (λ (l : List ℕ). set l (at + i) (get_or more i 0)) is ∙ paste-suc before at more i 0 room fits ∙ ap (λ (n : ℕ). paste before at more n) (sym (add-one i))
 
 -- The octets of a text number 96.

@@ -4,15 +4,15 @@ use mathlib.Core.List.{List}
 use Prim.Native.Nat.{ℕ}
 use Rattle.report_lines.specs.declared.ReportLine.{ReportLine}
 use Rattle.report_lines.specs.declared.Text.{Text}
-use Rattle.report_lines.specs.Lines.{line_of, closingOf}
+use Rattle.report_lines.specs.Lines.{line_of, closing_of}
 use Rattle.report_lines.specs.Text.{Holds, LineOutcome, ClosingOutcome}
 
 same_text : (content : List ℕ) (one other : Text) → Holds one content → Holds other content → one ≡ other
 same_text content one other a b =
     ap₂ {C = Text} (λ (octets : List ℕ) (len : ℕ). record { octets = octets; len = len }) (a.octets ∙ sym b.octets) (a.size ∙ sym b.size)
 
-pub line-settled : (line : ReportLine) (one other : Text) → LineOutcome line one → LineOutcome line other → one ≡ other
-line-settled line one other a b = same_text (line_of line) one other a b
+pub line_settled : (line : ReportLine) (one other : Text) → LineOutcome line one → LineOutcome line other → one ≡ other
+line_settled line one other a b = same_text (line_of line) one other a b
 
-pub closing-settled : (left blocks : ℕ) (one other : Text) → ClosingOutcome left blocks one → ClosingOutcome left blocks other → one ≡ other
-closing-settled left blocks one other a b = same_text (closingOf left blocks) one other a b
+pub closing_settled : (left blocks : ℕ) (one other : Text) → ClosingOutcome left blocks one → ClosingOutcome left blocks other → one ≡ other
+closing_settled left blocks one other a b = same_text (closing_of left blocks) one other a b

@@ -1,6 +1,6 @@
 // The octets of each kind of line.
 ghost use Rattle.std.specs.Prelude.{◌++◌, ◌+◌, ◌≤◌, length};
-ghost use Rattle.report_lines.specs.Lines.{decimal, blockText, lineEnd};
+ghost use Rattle.report_lines.specs.Lines.{decimal, block_text, line_end};
 ghost use Rattle.report_lines.specs.Text.{Holds, LineOutcome, ClosingOutcome};
 ghost use Rattle.report_lines.specs.Working.{Room, Added};
 
@@ -19,7 +19,7 @@ fn ended(text: Text, word: &[u8], number: u64, end: &[u8]) -> Text
 
 fn block_line(block: u64, word: &[u8], number: u64, end: &[u8]) -> Text
     requires { (length word.now ≤ 18) × (length end.now ≤ 10) }
-    ensures { Holds result (blockText ++ (decimal block ++ (word.now ++ (decimal number ++ end.now)))) }
+    ensures { Holds result (block_text ++ (decimal block ++ (word.now ++ (decimal number ++ end.now)))) }
 {
     let begun = with_text(empty(), b"block ");
     let numbered = with_number(begun, block);
@@ -28,7 +28,7 @@ fn block_line(block: u64, word: &[u8], number: u64, end: &[u8]) -> Text
 
 fn count_line(word: &[u8], number: u64) -> Text
     requires { length word.now ≤ 18 }
-    ensures { Holds result (word.now ++ (decimal number ++ lineEnd)) }
+    ensures { Holds result (word.now ++ (decimal number ++ line_end)) }
 {
     ended(empty(), word, number, b"\n")
 }

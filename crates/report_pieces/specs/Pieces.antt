@@ -1,6 +1,6 @@
 -- What the report says of a piece of its input (document 01, "The report program"; document 02, (v)).
 use Rattle.std.specs.Prelude.{Bool, true, false, List, ℕ, ◌≤◌, ◌<◌, length, replicate}
-use Rattle.refusals.specs.Numbers.{parameterNumber, markerNumber}
+use Rattle.refusals.specs.Numbers.{parameter_number, marker_number}
 use Rattle.refusals.specs.declared.WordRefusal.TheVariants as word
 use Rattle.chain.specs.declared.Stage.{Stage}
 use Rattle.chain.specs.declared.Stage.TheVariants.{Parameters, Marker, Word}
@@ -13,25 +13,25 @@ use Rattle.report_lines.specs.Text.{LineOutcome, ClosingOutcome}
 use Rattle.chain.specs.declared.Received.TheVariants as received
 
 -- The line of a refused block: by 10 it names the word, by any other number that number.
-abbrev pub refusedLine : ℕ → Stage → ReportLine
-refusedLine block (Parameters p) = Refused block (parameterNumber p)
-refusedLine block (Marker r) = Refused block (markerNumber r)
-refusedLine block (Word (word.Parameters p)) = Refused block (parameterNumber p)
-refusedLine block (Word (word.NoCodeword w)) = Lost block w
+abbrev pub refused_line : ℕ → Stage → ReportLine
+refused_line block (Parameters p) = Refused block (parameter_number p)
+refused_line block (Marker r) = Refused block (marker_number r)
+refused_line block (Word (word.Parameters p)) = Refused block (parameter_number p)
+refused_line block (Word (word.NoCodeword w)) = Lost block w
 
 -- The line of a delivered block says whether it was inverted.
-abbrev pub deliveredLine : ℕ → ℕ → Bool → ReportLine
-deliveredLine block total true = Inverted block total
-deliveredLine block total false = Corrected block total
+abbrev pub delivered_line : ℕ → ℕ → Bool → ReportLine
+delivered_line block total true = Inverted block total
+delivered_line block total false = Corrected block total
 
 -- The line of a block that receive answered so, with this total and this flag.
-abbrev pub answeredLine : ℕ → Received → ℕ → Bool → ReportLine
-answeredLine block received.Delivered total turned = deliveredLine block total turned
-answeredLine block (received.Refused stage) total turned = refusedLine block stage
+abbrev pub answered_line : ℕ → Received → ℕ → Bool → ReportLine
+answered_line block received.Delivered total turned = delivered_line block total turned
+answered_line block (received.Refused stage) total turned = refused_line block stage
 
 -- A frame of zeros, which receive fills when it delivers.
-unfoldable pub emptyFrame : List ℕ
-emptyFrame = replicate 1115 0
+unfoldable pub empty_frame : List ℕ
+empty_frame = replicate 1115 0
 
 -- The text is the line of the block as receive answers it, at E 16, I 5, Q 0, s 16 and tolerance 3, randomised.
 pub record BlockReported (block : ℕ) (marked : List ℕ) (text : Text) : Type 0 where
@@ -40,8 +40,8 @@ pub record BlockReported (block : ℕ) (marked : List ℕ) (text : Text) : Type 
   pub total : ℕ
   pub turned : Bool
   pub frame : List ℕ
-  pub received : ReceiveOutcome 16 5 0 16 3 true marked emptyFrame answer counts total turned frame
-  pub said : LineOutcome (answeredLine block answer total turned) text
+  pub received : ReceiveOutcome 16 5 0 16 3 true marked empty_frame answer counts total turned frame
+  pub said : LineOutcome (answered_line block answer total turned) text
 
 -- A piece is a block, of which the number is given, unless it is shorter than 1,279 octets: then it is what is left after so many blocks.
 pub record PieceOutcome (block : ℕ) (octets : List ℕ) (text : Text) : Type 0 where

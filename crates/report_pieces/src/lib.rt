@@ -1,13 +1,13 @@
 // What the report writes of each piece of its input: the line of a whole block, or the closing lines.
 ghost use Rattle.std.specs.Prelude.{◌≡◌};
-ghost use Rattle.report_pieces.specs.Pieces.{refusedLine, deliveredLine, answeredLine, BlockReported, PieceOutcome};
+ghost use Rattle.report_pieces.specs.Pieces.{refused_line, delivered_line, answered_line, BlockReported, PieceOutcome};
 
 use chain::{Received, Stage};
 use refusals::WordRefusal;
 use report_lines::{ReportLine, Text};
 
 fn refused_line(block: u64, stage: Stage) -> ReportLine
-    ensures { result ≡ refusedLine block stage }
+    ensures { result ≡ refused_line block stage }
 {
     match stage {
         Stage::Parameters(p) => ReportLine::Refused {
@@ -32,7 +32,7 @@ fn refused_line(block: u64, stage: Stage) -> ReportLine
 }
 
 fn delivered_line(block: u64, total: u32, inverted: bool) -> ReportLine
-    ensures { result ≡ deliveredLine block total inverted }
+    ensures { result ≡ delivered_line block total inverted }
 {
     let total = total as u64;
     if inverted {
@@ -42,7 +42,7 @@ fn delivered_line(block: u64, total: u32, inverted: bool) -> ReportLine
 }
 
 fn answered_line(block: u64, answer: Received, total: u32, inverted: bool) -> ReportLine
-    ensures { result ≡ answeredLine block answer total inverted }
+    ensures { result ≡ answered_line block answer total inverted }
 {
     match answer {
         Received::Delivered => delivered_line(block, total, inverted),

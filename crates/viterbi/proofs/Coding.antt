@@ -5,8 +5,8 @@ use mathlib.Core.List.{List, [], ◌∷◌}
 use Prim.Native.Nat.{ℕ, ◌+◌, ◌-◌, ◌≤◌, ◌<◌}
 use native.Mathlib.Omega.{arith}
 use lib.Dec.{eqb}
-use Rattle.codewords.specs.Words.{differing, oneUnless}
-use Rattle.convolution.specs.Coder.{g1, g2, connected, symbolsAt, symbols_from, nextRegister}
+use Rattle.codewords.specs.Words.{differing, one_unless}
+use Rattle.convolution.specs.Coder.{g1, g2, connected, symbols_at, symbols_from, next_register}
 use Rattle.viterbi.specs.Working.{branch}
 
 -- In how many places the symbols of bits differ from received ones.
@@ -14,24 +14,24 @@ unfoldable pub cost : ℕ → List ℕ → List ℕ → ℕ
 cost register received bits = differing (symbols_from 1 register 0 bits) received
 
 pub cost_step : (register a b bit : ℕ) (received bits : List ℕ) →
-    cost register (a ∷ (b ∷ received)) (bit ∷ bits) ≡ branch register bit a b + cost (nextRegister register bit) received bits
-unfolding cost branch symbolsAt differing
+    cost register (a ∷ (b ∷ received)) (bit ∷ bits) ≡ branch register bit a b + cost (next_register register bit) received bits
+unfolding cost branch symbols_at differing
 cost_step register a b bit received bits = omega arith
 
-pub cost-none : (register : ℕ) → cost register [] [] ≡ 0
+pub cost_none : (register : ℕ) → cost register [] [] ≡ 0
 unfolding cost differing
-cost-none register = refl
+cost_none register = refl
 
-at_most_one : (same : Bool) → oneUnless same ≤ 1
+at_most_one : (same : Bool) → one_unless same ≤ 1
 at_most_one true = omega arith
 at_most_one false = omega arith
 
-pub branch-most : (register bit a b : ℕ) → branch register bit a b ≤ 2
-unfolding branch symbolsAt differing
-branch-most register bit a b =
+pub branch_most : (register bit a b : ℕ) → branch register bit a b ≤ 2
+unfolding branch symbols_at differing
+branch_most register bit a b =
     omega (arith, at_most_one (eqb (connected g1 register bit) a), at_most_one (eqb (1 - connected g2 register bit) b))
 
 -- The bit that a test chooses.
-pub chosen-bit : (one : Bool) → cond one 1 0 < 2
-chosen-bit true = omega arith
-chosen-bit false = omega arith
+pub chosen_bit : (one : Bool) → cond one 1 0 < 2
+chosen_bit true = omega arith
+chosen_bit false = omega arith

@@ -8,45 +8,45 @@ use native.Mathlib.Decide.{ℕ_discrete}
 use borrow.Author.Tests.{ltb-true, ltb-false}
 use lib.Dec.{ltb}
 use lib.ListN.{length, get_or, drop}
-use Rattle.convolution.specs.Coder.{nextRegister}
+use Rattle.convolution.specs.Coder.{next_register}
 use Rattle.convolution.proofs.Packing.{AreBits}
 use Rattle.viterbi.specs.Likeliest.{First}
-use Rattle.viterbi.specs.Working.{branch, toGo, via, choice, path}
-use Rattle.viterbi.proofs.Coding.{cost, cost_step, cost-none}
+use Rattle.viterbi.specs.Working.{branch, to_go, via, choice, path}
+use Rattle.viterbi.proofs.Coding.{cost, cost_step, cost_none}
 
 -- No bits cost less than the cost to go.
-pub lower : (bits received : List ℕ) (r : ℕ) → AreBits bits → length received ≡ 2 * length bits → toGo received r ≤ cost r received bits
+pub lower : (bits received : List ℕ) (r : ℕ) → AreBits bits → length received ≡ 2 * length bits → to_go received r ≤ cost r received bits
 lower [] [] r p h = omega arith
 lower [] (a ∷ []) r p h = omega arith
 lower [] (a ∷ (b ∷ s)) r p h = omega arith
 lower (x ∷ xs) [] r p h = omega arith
 lower (x ∷ xs) (a ∷ []) r p h = omega arith
-lower (zero ∷ xs) (a ∷ (b ∷ s)) r p h = omega (arith, cost_step r a b 0 s xs, lower xs s (nextRegister r 0) p.1 (omega arith))
-lower (suc zero ∷ xs) (a ∷ (b ∷ s)) r p h = omega (arith, cost_step r a b 1 s xs, lower xs s (nextRegister r 1) p.1 (omega arith))
+lower (zero ∷ xs) (a ∷ (b ∷ s)) r p h = omega (arith, cost_step r a b 0 s xs, lower xs s (next_register r 0) p.1 (omega arith))
+lower (suc zero ∷ xs) (a ∷ (b ∷ s)) r p h = omega (arith, cost_step r a b 1 s xs, lower xs s (next_register r 1) p.1 (omega arith))
 lower (suc (suc x) ∷ xs) (a ∷ (b ∷ s)) r p h = absurd (omega (arith, p.0))
 
 pub path-length : (received : List ℕ) (r n : ℕ) → length received ≡ 2 * n → length (path received r) ≡ n
 path-length [] r n h = omega arith
 path-length (a ∷ []) r n h = omega arith
 path-length (a ∷ (b ∷ s)) r zero h = omega arith
-path-length (a ∷ (b ∷ s)) r (suc n) h = ap suc (path-length s (nextRegister r (choice r a b s)) n (omega arith))
+path-length (a ∷ (b ∷ s)) r (suc n) h = ap suc (path-length s (next_register r (choice r a b s)) n (omega arith))
 
 -- The path costs just that.
-pub path-cost : (received : List ℕ) (r n : ℕ) → length received ≡ 2 * n → cost r received (path received r) ≡ toGo received r
-path-cost [] r n h = cost-none r
+pub path-cost : (received : List ℕ) (r n : ℕ) → length received ≡ 2 * n → cost r received (path received r) ≡ to_go received r
+path-cost [] r n h = cost_none r
 path-cost (a ∷ []) r n h = omega arith
 path-cost (a ∷ (b ∷ s)) r zero h = omega arith
 path-cost (a ∷ (b ∷ s)) r (suc n) h =
-    go (ltb (via r a b s 1) (via r a b s 0)) refl (path-cost s (nextRegister r (choice r a b s)) n (omega arith))
+    go (ltb (via r a b s 1) (via r a b s 0)) refl (path-cost s (next_register r (choice r a b s)) n (omega arith))
   where
     go : (t : Bool) → ltb (via r a b s 1) (via r a b s 0) ≡ t →
-        cost (nextRegister r (cond t 1 0)) s (path s (nextRegister r (cond t 1 0))) ≡ toGo s (nextRegister r (cond t 1 0)) →
-        cost r (a ∷ (b ∷ s)) (cond t 1 0 ∷ path s (nextRegister r (cond t 1 0))) ≡ toGo (a ∷ (b ∷ s)) r
-    go true e i = omega (arith, cost_step r a b 1 s (path s (nextRegister r 1)), ltb-true (via r a b s 1) (via r a b s 0) e)
-    go false e i = omega (arith, cost_step r a b 0 s (path s (nextRegister r 0)), ltb-false (via r a b s 1) (via r a b s 0) e)
+        cost (next_register r (cond t 1 0)) s (path s (next_register r (cond t 1 0))) ≡ to_go s (next_register r (cond t 1 0)) →
+        cost r (a ∷ (b ∷ s)) (cond t 1 0 ∷ path s (next_register r (cond t 1 0))) ≡ to_go (a ∷ (b ∷ s)) r
+    go true e i = omega (arith, cost_step r a b 1 s (path s (next_register r 1)), ltb-true (via r a b s 1) (via r a b s 0) e)
+    go false e i = omega (arith, cost_step r a b 0 s (path s (next_register r 0)), ltb-false (via r a b s 1) (via r a b s 0) e)
 
-first-none : First [] []
-first-none k t d = refl
+first_none : First [] []
+first_none k t d = refl
 
 -- A bit in front of both.
 first-zero : (x : ℕ) (one other : List ℕ) → (x ≡ 0 → First one other) → First (0 ∷ one) (x ∷ other)
@@ -58,28 +58,28 @@ first_one one other f zero t d = absurd (d refl)
 first_one one other f (suc k) t d = f k (ap (drop 1) t) d
 
 -- Of the bits that cost as little the path is the first.
-pub path-first : (received bits : List ℕ) (r : ℕ) → AreBits bits → length received ≡ 2 * length bits → cost r received bits ≡ toGo received r → First (path received r) bits
-path-first [] [] r p h e = first-none
+pub path-first : (received bits : List ℕ) (r : ℕ) → AreBits bits → length received ≡ 2 * length bits → cost r received bits ≡ to_go received r → First (path received r) bits
+path-first [] [] r p h e = first_none
 path-first [] (x ∷ xs) r p h e = absurd (omega arith)
 path-first (a ∷ []) [] r p h e = absurd (omega arith)
 path-first (a ∷ []) (x ∷ xs) r p h e = absurd (omega arith)
 path-first (a ∷ (b ∷ s)) [] r p h e = absurd (omega arith)
 path-first (a ∷ (b ∷ s)) (x ∷ xs) r p h e =
-    go (ltb (via r a b s 1) (via r a b s 0)) x refl p.0 (path-first s xs (nextRegister r (choice r a b s)) p.1 (omega arith)) (sym (cost_step r a b x s xs) ∙ e)
+    go (ltb (via r a b s 1) (via r a b s 0)) x refl p.0 (path-first s xs (next_register r (choice r a b s)) p.1 (omega arith)) (sym (cost_step r a b x s xs) ∙ e)
   where
-    low : (bit : ℕ) → toGo s (nextRegister r bit) ≤ cost (nextRegister r bit) s xs
-    low bit = lower xs s (nextRegister r bit) p.1 (omega arith)
+    low : (bit : ℕ) → to_go s (next_register r bit) ≤ cost (next_register r bit) s xs
+    low bit = lower xs s (next_register r bit) p.1 (omega arith)
 
     go : (t : Bool) (x : ℕ) → ltb (via r a b s 1) (via r a b s 0) ≡ t → x < 2 →
-        (cost (nextRegister r (cond t 1 0)) s xs ≡ toGo s (nextRegister r (cond t 1 0)) → First (path s (nextRegister r (cond t 1 0))) xs) →
-        branch r x a b + cost (nextRegister r x) s xs ≡ toGo (a ∷ (b ∷ s)) r → First (cond t 1 0 ∷ path s (nextRegister r (cond t 1 0))) (x ∷ xs)
-    go false x c l i e = first-zero x (path s (nextRegister r 0)) xs (λ z. i (zero-way x z e))
+        (cost (next_register r (cond t 1 0)) s xs ≡ to_go s (next_register r (cond t 1 0)) → First (path s (next_register r (cond t 1 0))) xs) →
+        branch r x a b + cost (next_register r x) s xs ≡ to_go (a ∷ (b ∷ s)) r → First (cond t 1 0 ∷ path s (next_register r (cond t 1 0))) (x ∷ xs)
+    go false x c l i e = first-zero x (path s (next_register r 0)) xs (λ z. i (zero_way x z e))
       where
-        zero-way : (y : ℕ) → y ≡ 0 → branch r y a b + cost (nextRegister r y) s xs ≡ toGo (a ∷ (b ∷ s)) r → cost (nextRegister r 0) s xs ≡ toGo s (nextRegister r 0)
-        zero-way zero z e = omega (arith, ltb-false (via r a b s 1) (via r a b s 0) c, low 0)
-        zero-way (suc y) z e = absurd (omega arith)
+        zero_way : (y : ℕ) → y ≡ 0 → branch r y a b + cost (next_register r y) s xs ≡ to_go (a ∷ (b ∷ s)) r → cost (next_register r 0) s xs ≡ to_go s (next_register r 0)
+        zero_way zero z e = omega (arith, ltb-false (via r a b s 1) (via r a b s 0) c, low 0)
+        zero_way (suc y) z e = absurd (omega arith)
     go true zero c l i e = absurd (omega (arith, ltb-true (via r a b s 1) (via r a b s 0) c, low 0))
-    go true (suc zero) c l i e = first_one (path s (nextRegister r 1)) xs (i (omega (arith, ltb-true (via r a b s 1) (via r a b s 0) c, low 1)))
+    go true (suc zero) c l i e = first_one (path s (next_register r 1)) xs (i (omega (arith, ltb-true (via r a b s 1) (via r a b s 0) c, low 1)))
     go true (suc (suc x)) c l i e = absurd (omega arith)
 
 -- There is only one first.

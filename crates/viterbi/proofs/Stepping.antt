@@ -9,13 +9,13 @@ use borrow.Author.Tests.{ltb-true, ltb-false}
 use lib.Dec.{ltb}
 use lib.ListN.{length, get_or, set, length-set}
 use lib.Seq.{get_or-set_same, get_or-set_other}
-use Rattle.convolution.specs.Coder.{nextRegister}
+use Rattle.convolution.specs.Coder.{next_register}
 use Rattle.viterbi.specs.declared.Column.{Column}
-use Rattle.viterbi.specs.Working.{turned, ofRegister, Serves, by, Earlier, Below, Under}
-use Rattle.viterbi.proofs.Coding.{branch-most}
-use Rattle.viterbi.proofs.Turned.{turned-small, turned-back, even-zero, even-one, odd-zero, odd-one}
+use Rattle.viterbi.specs.Working.{turned, of_register, Serves, by, Earlier, Below, Under}
+use Rattle.viterbi.proofs.Coding.{branch_most}
+use Rattle.viterbi.proofs.Turned.{turned_small, turned_back, even_zero, even_one, odd_zero, odd_one}
 
-pub next_small : (r bit : ℕ) → nextRegister r bit < 64
+pub next_small : (r bit : ℕ) → next_register r bit < 64
 next_small r bit = mod-lt (r * 2 + bit) (omega arith)
 
 -- ---- a list that is filled from the front
@@ -45,14 +45,14 @@ filled-two f k list v w h ev ew d =
 
 -- ---- what the register at a place gets
 
-pub costAt : List ℕ → ℕ → ℕ → ℕ
-costAt costs pair place = min (by costs pair (turned place) 0) (by costs pair (turned place) 1)
+pub cost_at : List ℕ → ℕ → ℕ → ℕ
+cost_at costs pair place = min (by costs pair (turned place) 0) (by costs pair (turned place) 1)
 
-pub wayAt : Column → ℕ → ℕ → ℕ → ℕ
-wayAt column pair weight place =
+pub way_at : Column → ℕ → ℕ → ℕ → ℕ
+way_at column pair weight place =
     cond (ltb (by column.costs pair (turned place) 1) (by column.costs pair (turned place) 0))
-    (ofRegister column.ways (nextRegister (turned place) 1) + weight)
-    (ofRegister column.ways (nextRegister (turned place) 0))
+    (of_register column.ways (next_register (turned place) 1) + weight)
+    (of_register column.ways (next_register (turned place) 0))
 
 -- Two equal tests choose alike.
 chosen : (a b c d u v x y : ℕ) → a ≡ c → b ≡ d → u ≡ x → v ≡ y → cond (ltb a b) u v ≡ cond (ltb c d) x y
@@ -63,57 +63,57 @@ module _ (column : Column) (pair weight k x : ℕ) (h : k < 32) (serves : Serves
   moved : (list : List ℕ) (place at : ℕ) → place ≡ at → get_or list at 0 ≡ get_or list place 0
   moved list place at e = ap (λ (n : ℕ). get_or list n 0) (sym e)
 
-  zero-even : x + get_or column.costs k 0 ≡ by column.costs pair (turned (2 * k)) 0
-  zero-even = ap₂ ◌+◌ serves.zero-even (moved column.costs _ k (even-zero k h))
+  zero_even : x + get_or column.costs k 0 ≡ by column.costs pair (turned (2 * k)) 0
+  zero_even = ap₂ ◌+◌ serves.zero_even (moved column.costs _ k (even_zero k h))
 
-  one-even : 2 - x + get_or column.costs (k + 32) 0 ≡ by column.costs pair (turned (2 * k)) 1
-  one-even = ap₂ ◌+◌ serves.one-even (moved column.costs _ (k + 32) (even-one k h))
+  one_even : 2 - x + get_or column.costs (k + 32) 0 ≡ by column.costs pair (turned (2 * k)) 1
+  one_even = ap₂ ◌+◌ serves.one_even (moved column.costs _ (k + 32) (even_one k h))
 
-  zero-odd : 2 - x + get_or column.costs k 0 ≡ by column.costs pair (turned (2 * k + 1)) 0
-  zero-odd = ap₂ ◌+◌ serves.zero-odd (moved column.costs _ k (odd-zero k h))
+  zero_odd : 2 - x + get_or column.costs k 0 ≡ by column.costs pair (turned (2 * k + 1)) 0
+  zero_odd = ap₂ ◌+◌ serves.zero_odd (moved column.costs _ k (odd_zero k h))
 
-  one-odd : x + get_or column.costs (k + 32) 0 ≡ by column.costs pair (turned (2 * k + 1)) 1
-  one-odd = ap₂ ◌+◌ serves.one-odd (moved column.costs _ (k + 32) (odd-one k h))
+  one_odd : x + get_or column.costs (k + 32) 0 ≡ by column.costs pair (turned (2 * k + 1)) 1
+  one_odd = ap₂ ◌+◌ serves.one_odd (moved column.costs _ (k + 32) (odd_one k h))
 
-  pub even-cost : min (x + get_or column.costs k 0) (2 - x + get_or column.costs (k + 32) 0) ≡ costAt column.costs pair (2 * k)
-  unfolding costAt
-  even-cost = ap₂ min zero-even one-even
+  pub even_cost : min (x + get_or column.costs k 0) (2 - x + get_or column.costs (k + 32) 0) ≡ cost_at column.costs pair (2 * k)
+  unfolding cost_at
+  even_cost = ap₂ min zero_even one_even
 
-  pub odd-cost : min (2 - x + get_or column.costs k 0) (x + get_or column.costs (k + 32) 0) ≡ costAt column.costs pair (2 * k + 1)
-  unfolding costAt
-  odd-cost = ap₂ min zero-odd one-odd
+  pub odd_cost : min (2 - x + get_or column.costs k 0) (x + get_or column.costs (k + 32) 0) ≡ cost_at column.costs pair (2 * k + 1)
+  unfolding cost_at
+  odd_cost = ap₂ min zero_odd one_odd
 
-  pub even-way : cond (ltb (2 - x + get_or column.costs (k + 32) 0) (x + get_or column.costs k 0)) (get_or column.ways (k + 32) 0 + weight) (get_or column.ways k 0) ≡ wayAt column pair weight (2 * k)
-  unfolding wayAt
-  even-way = chosen _ _ _ _ _ _ _ _ one-even zero-even (ap (λ (n : ℕ). n + weight) (moved column.ways _ (k + 32) (even-one k h))) (moved column.ways _ k (even-zero k h))
+  pub even_way : cond (ltb (2 - x + get_or column.costs (k + 32) 0) (x + get_or column.costs k 0)) (get_or column.ways (k + 32) 0 + weight) (get_or column.ways k 0) ≡ way_at column pair weight (2 * k)
+  unfolding way_at
+  even_way = chosen _ _ _ _ _ _ _ _ one_even zero_even (ap (λ (n : ℕ). n + weight) (moved column.ways _ (k + 32) (even_one k h))) (moved column.ways _ k (even_zero k h))
 
-  pub odd-way : cond (ltb (x + get_or column.costs (k + 32) 0) (2 - x + get_or column.costs k 0)) (get_or column.ways (k + 32) 0 + weight) (get_or column.ways k 0) ≡ wayAt column pair weight (2 * k + 1)
-  unfolding wayAt
-  odd-way = chosen _ _ _ _ _ _ _ _ one-odd zero-odd (ap (λ (n : ℕ). n + weight) (moved column.ways _ (k + 32) (odd-one k h))) (moved column.ways _ k (odd-zero k h))
+  pub odd_way : cond (ltb (x + get_or column.costs (k + 32) 0) (2 - x + get_or column.costs k 0)) (get_or column.ways (k + 32) 0 + weight) (get_or column.ways k 0) ≡ way_at column pair weight (2 * k + 1)
+  unfolding way_at
+  odd_way = chosen _ _ _ _ _ _ _ _ one_odd zero_odd (ap (λ (n : ℕ). n + weight) (moved column.ways _ (k + 32) (odd_one k h))) (moved column.ways _ k (odd_zero k h))
 
 -- All places filled.
-pub all-earlier : (column after : Column) (pair weight k : ℕ) → k ≡ 32 → Filled (costAt column.costs pair) (2 * k) after.costs → Filled (wayAt column pair weight) (2 * k) after.ways →
+pub all_earlier : (column after : Column) (pair weight k : ℕ) → k ≡ 32 → Filled (cost_at column.costs pair) (2 * k) after.costs → Filled (way_at column pair weight) (2 * k) after.ways →
     Earlier column pair weight after
-unfolding costAt wayAt
-all-earlier column after pair weight k e costs ways =
+unfolding cost_at way_at
+all_earlier column after pair weight k e costs ways =
     record {
-      cost = λ r h. costs.at (turned r) (omega (arith, turned-small r)) ∙ ap (λ (q : ℕ). min (by column.costs pair q 0) (by column.costs pair q 1)) (turned-back r h);
-      way = λ r h. ways.at (turned r) (omega (arith, turned-small r)) ∙ ap (λ (q : ℕ). cond (ltb (by column.costs pair q 1) (by column.costs pair q 0)) (ofRegister column.ways (nextRegister q 1) + weight) (ofRegister column.ways (nextRegister q 0))) (turned-back r h);
+      cost = λ r h. costs.at (turned r) (omega (arith, turned_small r)) ∙ ap (λ (q : ℕ). min (by column.costs pair q 0) (by column.costs pair q 1)) (turned_back r h);
+      way = λ r h. ways.at (turned r) (omega (arith, turned_small r)) ∙ ap (λ (q : ℕ). cond (ltb (by column.costs pair q 1) (by column.costs pair q 0)) (of_register column.ways (next_register q 1) + weight) (of_register column.ways (next_register q 0))) (turned_back r h);
     }
 
 -- ---- bounds
 
 module _ (column after : Column) (pair weight : ℕ) (d : Earlier column pair weight after) where
-  pub below-back : (m n : ℕ) → m + 2 ≤ n → Below m column.costs → Below n after.costs
-  below-back m n h b = record { at = λ place l. rw (turned-back place l) at (at place) }
+  pub below_back : (m n : ℕ) → m + 2 ≤ n → Below m column.costs → Below n after.costs
+  below_back m n h b = record { at = λ place l. rw (turned_back place l) at (at place) }
     where
       at : (place : ℕ) → get_or after.costs (turned (turned place)) 0 ≤ n
       at place =
           let r = turned place in
-          omega (arith, d.cost r (turned-small place), b.at (turned (nextRegister r 0)) (turned-small (nextRegister r 0)), branch-most r 0 (pair / 2) (pair % 2))
+          omega (arith, d.cost r (turned_small place), b.at (turned (next_register r 0)) (turned_small (next_register r 0)), branch_most r 0 (pair / 2) (pair % 2))
 
   pub under_back : (n : ℕ) → weight + weight ≡ n → Under weight column.ways → Under n after.ways
-  under_back n e u = record { at = λ place l. rw (turned-back place l) at (at place) }
+  under_back n e u = record { at = λ place l. rw (turned_back place l) at (at place) }
     where
       either : (test : Bool) (a b m : ℕ) → a < weight → b < weight → m ≡ cond test (a + weight) b → m < n
       either true a b m p q s = omega arith
@@ -122,5 +122,5 @@ module _ (column after : Column) (pair weight : ℕ) (d : Earlier column pair we
       at : (place : ℕ) → get_or after.ways (turned (turned place)) 0 < n
       at place =
           let r = turned place in
-          either (ltb (by column.costs pair r 1) (by column.costs pair r 0)) (ofRegister column.ways (nextRegister r 1)) (ofRegister column.ways (nextRegister r 0)) (ofRegister after.ways r)
-          (u.at (turned (nextRegister r 1)) (turned-small (nextRegister r 1))) (u.at (turned (nextRegister r 0)) (turned-small (nextRegister r 0))) (d.way r (turned-small place))
+          either (ltb (by column.costs pair r 1) (by column.costs pair r 0)) (of_register column.ways (next_register r 1)) (of_register column.ways (next_register r 0)) (of_register after.ways r)
+          (u.at (turned (next_register r 1)) (turned_small (next_register r 1))) (u.at (turned (next_register r 0)) (turned_small (next_register r 0))) (d.way r (turned_small place))

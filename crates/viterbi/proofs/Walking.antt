@@ -8,36 +8,36 @@ use native.Mathlib.Numerals.{add-one}
 use lib.ListN.{length, get_or, set, take, drop, drop_of_length-le}
 use lib.Seq.{take-suc-set, take_all}
 use Rattle.codewords.specs.Words.{Octets}
-use Rattle.convolution.specs.Coder.{low_bits, bits_of, registerAfter}
-use Rattle.convolution.proofs.Bits.{low-mod, bits-append, bits-length}
+use Rattle.convolution.specs.Coder.{low_bits, bits_of, register_after}
+use Rattle.convolution.proofs.Bits.{low_mod, bits-append, bits-length}
 use Rattle.convolution.proofs.AtOnce.{register-at}
 use Rattle.convolution.proofs.Symbols.{register-append}
-use Rattle.viterbi.specs.Working.{turned, ofRegister, path, Ahead, Walked}
-use Rattle.viterbi.proofs.Octets.{octets-more}
+use Rattle.viterbi.specs.Working.{turned, of_register, path, Ahead, Walked}
+use Rattle.viterbi.proofs.Octets.{octets_more}
 
 -- The register behind an octet is its last six bits.
-last-six : (r v : ℕ) → r < 64 → v < 256 → registerAfter r (low_bits 8 v) ≡ v % 64
-last-six r v h l =
+last_six : (r v : ℕ) → r < 64 → v < 256 → register_after r (low_bits 8 v) ≡ v % 64
+last_six r v h l =
     let w = r * 256 + v in
     let above : w / 256 % 64 ≡ r = omega arith in
     let low : w % 256 ≡ v = omega arith in
     let six : w % 64 ≡ v % 64 = omega arith in
-    ap₂ registerAfter (sym above) (ap (low_bits 8) (sym low) ∙ low-mod 8 8 w (omega arith)) ∙ register-at 8 w ∙ six
+    ap₂ register_after (sym above) (ap (low_bits 8) (sym low) ∙ low_mod 8 8 w (omega arith)) ∙ register-at 8 w ∙ six
 
 pub record Halfway (received : List ℕ) (start : ℕ) (list : List ℕ) (i at : ℕ) : Type 0 where
   pub octets : Octets (take i list)
   pub register : at < 64
   pub walked : path received start ≡ bits_of (take i list) ++ path (drop (2 * (8 * i)) received) at
-  pub reached : at ≡ registerAfter start (bits_of (take i list))
+  pub reached : at ≡ register_after start (bits_of (take i list))
 
-pub halfway-none : (received : List ℕ) (start : ℕ) (list : List ℕ) → start < 64 → Halfway received start list 0 start
-halfway-none received start list h = record { octets = tt; register = h; walked = refl; reached = refl }
+pub halfway_none : (received : List ℕ) (start : ℕ) (list : List ℕ) → start < 64 → Halfway received start list 0 start
+halfway_none received start list h = record { octets = tt; register = h; walked = refl; reached = refl }
 
-pub halfway-more : (received : List ℕ) (start : ℕ) (list : List ℕ) (i at v : ℕ) → i < length list → Halfway received start list i at → Ahead received (8 * i) 8 at v →
+pub halfway_more : (received : List ℕ) (start : ℕ) (list : List ℕ) (i at v : ℕ) → i < length list → Halfway received start list i at → Ahead received (8 * i) 8 at v →
     Halfway received start (set list i v) (i + 1) (v % 64)
-halfway-more received start list i at v h d g =
+halfway_more received start list i at v h d g =
     record {
-      octets = rw taken (octets-more (take i list) v d.octets (g.small, tt));
+      octets = rw taken (octets_more (take i list) v d.octets (g.small, tt));
       register = mod-lt v (omega arith);
       walked =
           d.walked
@@ -46,13 +46,13 @@ halfway-more received start list i at v h d g =
           ∙ ap₂ ◌++◌ (sym bits) (ap (λ (k : ℕ). path (drop k received) (v % 64)) on);
       reached =
           sym six
-          ∙ ap (λ (k : ℕ). registerAfter k (low_bits 8 v)) d.reached
+          ∙ ap (λ (k : ℕ). register_after k (low_bits 8 v)) d.reached
           ∙ sym (register-append start (bits_of (take i list)) (low_bits 8 v))
-          ∙ ap (registerAfter start) (sym bits);
+          ∙ ap (register_after start) (sym bits);
     }
   where
-    six : registerAfter at (low_bits 8 v) ≡ v % 64
-    six = last-six at v d.register g.small
+    six : register_after at (low_bits 8 v) ≡ v % 64
+    six = last_six at v d.register g.small
 
     on : 2 * (8 * i + 8) ≡ 2 * (8 * (i + 1))
     on = omega arith
@@ -64,12 +64,12 @@ halfway-more received start list i at v h d g =
     bits = rw taken (bits-append (take i list) (v ∷ []) ∙ ap (λ (l : List ℕ). bits_of (take i list) ++ l) (append-nil (low_bits 8 v)))
 
 -- A row read at the register's place.
-pub ahead-at : (received row : List ℕ) (t register place : ℕ) → place ≡ turned register → Ahead received t 8 register (ofRegister row register) → Ahead received t 8 register (get_or row place 0)
+pub ahead-at : (received row : List ℕ) (t register place : ℕ) → place ≡ turned register → Ahead received t 8 register (of_register row register) → Ahead received t 8 register (get_or row place 0)
 ahead-at received row t register place e a = rw e a
 
-pub whole-way : (s : List ℕ) (start : ℕ) (before after : List ℕ) (i at : ℕ) → i ≡ length after → length after ≡ length before → 2 * length after ≡ length s →
+pub whole_way : (s : List ℕ) (start : ℕ) (before after : List ℕ) (i at : ℕ) → i ≡ length after → length after ≡ length before → 2 * length after ≡ length s →
     Halfway (bits_of s) start after i at → Walked (bits_of s) start before after at
-whole-way s start before after i at h l m d =
+whole_way s start before after i at h l m d =
     let all : take i after ≡ after = take_all i after (omega arith) in
     let none : drop (2 * (8 * i)) (bits_of s) ≡ [] = drop_of_length-le (bits_of s) {i = 2 * (8 * i)} (omega (arith, bits-length s)) in
     let walked : path (bits_of s) start ≡ bits_of after ++ [] = rw (all, none) at d.walked in

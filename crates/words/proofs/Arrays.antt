@@ -9,26 +9,26 @@ use lib.ListN.{length, get_or, take, set, length-set, length-map, replicate, len
 use lib.Seq.{get_or-set_same, get_or-set_other, get_or-take, ext_get_or, length-take-le}
 use lib.Bits.{bit_xor}
 use Rattle.field.specs.Field.{◌⊕◌}
-use Rattle.field.proofs.Sum.{⊕-is}
+use Rattle.field.proofs.Sum.{⊕_is}
 use Rattle.words.specs.Working.{Filled, Same}
 
-pub filled-starts : (f : ℕ → ℕ) (places : ℕ) (out : List ℕ) → length out ≡ places → Filled f places out 0
-filled-starts f places out h = record { size = h; each = λ i l. absurd (omega arith) }
+pub filled_starts : (f : ℕ → ℕ) (places : ℕ) (out : List ℕ) → length out ≡ places → Filled f places out 0
+filled_starts f places out h = record { size = h; each = λ i l. absurd (omega arith) }
 
 -- a place is set to what f gives there
-set-meets : (f : ℕ → ℕ) (out : List ℕ) (at v i : ℕ) → at < length out → v ≡ f at → (i ≢ at → get_or out i 0 ≡ f i) → get_or (set out at v) i 0 ≡ f i
-set-meets f out at v i h e other =
+set_meets : (f : ℕ → ℕ) (out : List ℕ) (at v i : ℕ) → at < length out → v ≡ f at → (i ≢ at → get_or out i 0 ≡ f i) → get_or (set out at v) i 0 ≡ f i
+set_meets f out at v i h e other =
     elim (ℕ_discrete i at) [
       | yes q ↦ ap (λ (k : ℕ). get_or (set out at v) k 0) q ∙ get_or-set_same out at v 0 h ∙ e ∙ ap f (sym q)
       | no n ↦ get_or-set_other out at i v 0 n ∙ other n
     ]
 
-pub filled-turn : (f : ℕ → ℕ) (places : ℕ) (out : List ℕ) (j v : ℕ) → Filled f places out j → j < places → v ≡ f j → Filled f places (set out j v) (j + 1)
-filled-turn f places out j v F h e =
-    record { size = length-set out j v ∙ F.size; each = λ i l. set-meets f out j v i (omega (arith, F.size)) e (λ n. F.each i (omega arith)) }
+pub filled_turn : (f : ℕ → ℕ) (places : ℕ) (out : List ℕ) (j v : ℕ) → Filled f places out j → j < places → v ≡ f j → Filled f places (set out j v) (j + 1)
+filled_turn f places out j v F h e =
+    record { size = length-set out j v ∙ F.size; each = λ i l. set_meets f out j v i (omega (arith, F.size)) e (λ n. F.each i (omega arith)) }
 
-pub sum-turn : (f : ℕ → ℕ) (places : ℕ) (out : List ℕ) (j a b : ℕ) → Filled f places out j → j < places → a ⊕ b ≡ f j → Filled f places (set out j (bit_xor a b)) (j + 1)
-sum-turn f places out j a b F h e = filled-turn f places out j (bit_xor a b) F h (sym (⊕-is a b) ∙ e)
+pub sum_turn : (f : ℕ → ℕ) (places : ℕ) (out : List ℕ) (j a b : ℕ) → Filled f places out j → j < places → a ⊕ b ≡ f j → Filled f places (set out j (bit_xor a b)) (j + 1)
+sum_turn f places out j a b F h e = filled_turn f places out j (bit_xor a b) F h (sym (⊕_is a b) ∙ e)
 
 pub filled-less : (f : ℕ → ℕ) (places : ℕ) (out : List ℕ) (n k : ℕ) → Filled f places out n → k ≤ n → Filled f places out k
 filled-less f places out n k F h = record { size = F.size; each = λ i l. F.each i (omega arith) }
@@ -47,26 +47,26 @@ zero-at zero i = refl
 zero-at (suc n) zero = refl
 zero-at (suc n) (suc i) = zero-at n i
 
-pub one-first : (n : ℕ) → Same (1 ∷ replicate n 0) (1 ∷ [])
-one-first n zero = refl
-one-first n (suc j) = zero-at n j
+pub one_first : (n : ℕ) → Same (1 ∷ replicate n 0) (1 ∷ [])
+one_first n zero = refl
+one_first n (suc j) = zero-at n j
 
 module _ (f : ℕ → ℕ) (places : ℕ) where
-  pub but-starts : (lo hi : ℕ) → ((i : ℕ) → i < lo → f i ≡ 0) → ((i : ℕ) → hi ≤ i → i < places → f i ≡ 0) → FilledBut f places (replicate places 0) lo hi
-  but-starts lo hi h k =
+  pub but_starts : (lo hi : ℕ) → ((i : ℕ) → i < lo → f i ≡ 0) → ((i : ℕ) → hi ≤ i → i < places → f i ≡ 0) → FilledBut f places (replicate places 0) lo hi
+  but_starts lo hi h k =
       record { size = length-replicate places 0; below = λ i l. zero-at places i ∙ sym (h i l); above = λ i l m. zero-at places i ∙ sym (k i l m) }
 
-  pub but-turn : (out : List ℕ) (at v lo hi lo' hi' : ℕ) → FilledBut f places out lo hi → at < places → v ≡ f at → ((i : ℕ) → i < lo' → i ≢ at → i < lo)
+  pub but_turn : (out : List ℕ) (at v lo hi lo' hi' : ℕ) → FilledBut f places out lo hi → at < places → v ≡ f at → ((i : ℕ) → i < lo' → i ≢ at → i < lo)
       → ((i : ℕ) → hi' ≤ i → i ≢ at → hi ≤ i) → FilledBut f places (set out at v) lo' hi'
-  but-turn out at v lo hi lo' hi' F h e low high =
+  but_turn out at v lo hi lo' hi' F h e low high =
       record {
         size = length-set out at v ∙ F.size;
-        below = λ i l. set-meets f out at v i (omega (arith, F.size)) e (λ n. F.below i (low i l n));
-        above = λ i l m. set-meets f out at v i (omega (arith, F.size)) e (λ n. F.above i (high i l n) m);
+        below = λ i l. set_meets f out at v i (omega (arith, F.size)) e (λ n. F.below i (low i l n));
+        above = λ i l m. set_meets f out at v i (omega (arith, F.size)) e (λ n. F.above i (high i l n) m);
       }
 
-  pub but-ends : (out : List ℕ) (lo hi : ℕ) → FilledBut f places out lo hi → hi ≤ lo → Filled f places out places
-  but-ends out lo hi F h =
+  pub but_ends : (out : List ℕ) (lo hi : ℕ) → FilledBut f places out lo hi → hi ≤ lo → Filled f places out places
+  but_ends out lo hi F h =
       record { size = F.size; each = λ i l. elim (dec_lt i lo) [ yes s ↦ F.below i s | no s ↦ F.above i (omega arith) l ] }
 
 -- what is converted symbol by symbol

@@ -10,12 +10,12 @@ use lib.ListN.{length, get_or, take, drop, set, length-take, length-drop, drop_o
 use lib.Seq.{drop-cons, get_or-drop, get_or-take, take_all}
 use lib.Bits.{bit_xor}
 use Rattle.field.specs.Field.{◌⊕◌, ◌·◌}
-use Rattle.field.proofs.Sum.{⊕-is, ⊕-assoc, ⊕-zero, zero-⊕}
+use Rattle.field.proofs.Sum.{⊕_is, ⊕_assoc, ⊕-zero, zero-⊕}
 use Rattle.field.proofs.Product.{·-zero, zero-·}
-use Rattle.codewords.specs.Polynomials.{eval, ◌⊞◌, scaled, shift_by, byRoot, quot, dot}
-use Rattle.codewords.proofs.Roots.{length-byRoot}
-use Rattle.words.specs.Working.{Filled, Same, terms, byRootAt, windowed}
-use Rattle.words.proofs.Arrays.{filled-turn, sum-turn, zero-at}
+use Rattle.codewords.specs.Polynomials.{eval, ◌⊞◌, scaled, shift_by, by_root, quot, dot}
+use Rattle.codewords.proofs.Roots.{length-by_root}
+use Rattle.words.specs.Working.{Filled, Same, terms, by_root_at, windowed}
+use Rattle.words.proofs.Arrays.{filled_turn, sum_turn, zero-at}
 
 -- ---- one coefficient
 
@@ -32,23 +32,23 @@ at_scaled c [] j = sym (·-zero c)
 at_scaled c (a ∷ p) zero = refl
 at_scaled c (a ∷ p) (suc j) = at_scaled c p j
 
-at-byRoot : (z : ℕ) (p : List ℕ) (j : ℕ) → get_or (byRoot z p) j 0 ≡ byRootAt z p j
-unfolding byRoot byRootAt shift_by
-at-byRoot z p j = at-⊞ (0 ∷ p) (scaled z p) j ∙ ap (λ (u : ℕ). get_or (0 ∷ p) j 0 ⊕ u) (at_scaled z p j)
+at-by_root : (z : ℕ) (p : List ℕ) (j : ℕ) → get_or (by_root z p) j 0 ≡ by_root_at z p j
+unfolding by_root by_root_at shift_by
+at-by_root z p j = at-⊞ (0 ∷ p) (scaled z p) j ∙ ap (λ (u : ℕ). get_or (0 ∷ p) j 0 ⊕ u) (at_scaled z p j)
 
-at-shift-low : (k : ℕ) (p : List ℕ) (j : ℕ) → j < k → get_or (shift_by k p) j 0 ≡ 0
+at_shift_low : (k : ℕ) (p : List ℕ) (j : ℕ) → j < k → get_or (shift_by k p) j 0 ≡ 0
 unfolding shift_by
-at-shift-low zero p j h = absurd (not-suc-le-zero h)
-at-shift-low (suc k) p zero h = refl
-at-shift-low (suc k) p (suc j) h = at-shift-low k p j (le_of_suc-le-suc h)
+at_shift_low zero p j h = absurd (not-suc-le-zero h)
+at_shift_low (suc k) p zero h = refl
+at_shift_low (suc k) p (suc j) h = at_shift_low k p j (le_of_suc-le-suc h)
 
-at-shift-up : (k : ℕ) (p : List ℕ) (j : ℕ) → get_or (shift_by k p) (k + j) 0 ≡ get_or p j 0
+at_shift_up : (k : ℕ) (p : List ℕ) (j : ℕ) → get_or (shift_by k p) (k + j) 0 ≡ get_or p j 0
 unfolding shift_by
-at-shift-up zero p j = ap (λ (i : ℕ). get_or p i 0) (zero-add j)
-at-shift-up (suc k) p j = ap (λ (i : ℕ). get_or (0 ∷ shift_by k p) i 0) (suc-add k j) ∙ at-shift-up k p j
+at_shift_up zero p j = ap (λ (i : ℕ). get_or p i 0) (zero-add j)
+at_shift_up (suc k) p j = ap (λ (i : ℕ). get_or (0 ∷ shift_by k p) i 0) (suc-add k j) ∙ at_shift_up k p j
 
-at-shift-high : (k : ℕ) (p : List ℕ) (j : ℕ) → k ≤ j → get_or p (j - k) 0 ≡ get_or (shift_by k p) j 0
-at-shift-high k p j h = sym (at-shift-up k p (j - k)) ∙ ap (λ (i : ℕ). get_or (shift_by k p) i 0) (add-sub_of_le h)
+at_shift_high : (k : ℕ) (p : List ℕ) (j : ℕ) → k ≤ j → get_or p (j - k) 0 ≡ get_or (shift_by k p) j 0
+at_shift_high k p j h = sym (at_shift_up k p (j - k)) ∙ ap (λ (i : ℕ). get_or (shift_by k p) i 0) (add-sub_of_le h)
 
 pub at-quot : (p : List ℕ) (z j : ℕ) → get_or (quot p z) j 0 ≡ eval (drop (suc j) p) z
 unfolding quot eval
@@ -100,8 +100,8 @@ quot-same p q z h i =
 shift_same : (k : ℕ) (p q : List ℕ) → Same p q → Same (shift_by k p) (shift_by k q)
 shift_same k p q h j =
     elim (dec_lt j k) [
-      | yes l ↦ at-shift-low k p j l ∙ sym (at-shift-low k q j l)
-      | no l ↦ sym (at-shift-high k p j (omega arith)) ∙ h (j - k) ∙ at-shift-high k q j (omega arith)
+      | yes l ↦ at_shift_low k p j l ∙ sym (at_shift_low k q j l)
+      | no l ↦ sym (at_shift_high k p j (omega arith)) ∙ h (j - k) ∙ at_shift_high k q j (omega arith)
     ]
 
 -- the zeros above may be cut off
@@ -120,22 +120,22 @@ filled-same f out p F e h j =
       | no l ↦ get_or-eq_default out 0 (omega (arith, F.size)) ∙ sym (get_or-eq_default p 0 (omega arith))
     ]
 
-pub byRoot-same : (z : ℕ) (p q out : List ℕ) → Filled (byRootAt z p) 33 out 33 → Same p q → length q ≤ 32 → Same out (byRoot z q)
-unfolding byRootAt
-byRoot-same z p q out F h l =
-    filled-same (byRootAt z p) out (byRoot z q) F (λ j k. ap₂ (λ (u v : ℕ). u ⊕ z · v) (shift_same 1 p q h j) (h j) ∙ sym (at-byRoot z q j)) (omega (arith, length-byRoot z q))
+pub by_root-same : (z : ℕ) (p q out : List ℕ) → Filled (by_root_at z p) 33 out 33 → Same p q → length q ≤ 32 → Same out (by_root z q)
+unfolding by_root_at
+by_root-same z p q out F h l =
+    filled-same (by_root_at z p) out (by_root z q) F (λ j k. ap₂ (λ (u v : ℕ). u ⊕ z · v) (shift_same 1 p q h j) (h j) ∙ sym (at-by_root z q j)) (omega (arith, length-by_root z q))
 
 -- ---- the loop that pairs
 
-pub pair-starts : (p s : List ℕ) → 0 ⊕ dot (terms s) 0 (drop 0 p) ≡ dot (terms s) 0 p
-pair-starts p s = zero-⊕ (dot (terms s) 0 p)
+pub pair_starts : (p s : List ℕ) → 0 ⊕ dot (terms s) 0 (drop 0 p) ≡ dot (terms s) 0 p
+pair_starts p s = zero-⊕ (dot (terms s) 0 p)
 
 pub pair_turn : (p s : List ℕ) (j sum total product : ℕ) → j < length p → product ≡ get_or p j 0 · get_or s j 0 → sum ⊕ dot (terms s) j (drop j p) ≡ total
     → bit_xor sum product ⊕ dot (terms s) (j + 1) (drop (j + 1) p) ≡ total
 unfolding dot terms
 pair_turn p s j sum total product h q e =
-    ap₂ (λ (x y : ℕ). x ⊕ y) (sym (⊕-is sum product) ∙ ap (λ (x : ℕ). sum ⊕ x) q) (ap (λ (k : ℕ). dot (terms s) k (drop k p)) (add-one j))
-    ∙ ⊕-assoc sum (get_or p j 0 · get_or s j 0) (dot (terms s) (suc j) (drop (suc j) p))
+    ap₂ (λ (x y : ℕ). x ⊕ y) (sym (⊕_is sum product) ∙ ap (λ (x : ℕ). sum ⊕ x) q) (ap (λ (k : ℕ). dot (terms s) k (drop k p)) (add-one j))
+    ∙ ⊕_assoc sum (get_or p j 0 · get_or s j 0) (dot (terms s) (suc j) (drop (suc j) p))
     ∙ ap (λ (l : List ℕ). sum ⊕ dot (terms s) j l) (sym (drop-cons p j 0 h)) ∙ e
 
 pub pair_ends : (p s : List ℕ) (j sum total : ℕ) → length p ≤ j → sum ⊕ dot (terms s) j (drop j p) ≡ total → sum ≡ total
@@ -144,36 +144,36 @@ pair_ends p s j sum total h e = sym (⊕-zero sum) ∙ ap (λ (l : List ℕ). su
 
 -- ---- pairing from a later term on
 
-dot-from : (S T : ℕ → ℕ) (i j : ℕ) (p : List ℕ) → ((k : ℕ) → T (j + k) ≡ S (i + k)) → dot T j p ≡ dot S i p
+dot_from : (S T : ℕ → ℕ) (i j : ℕ) (p : List ℕ) → ((k : ℕ) → T (j + k) ≡ S (i + k)) → dot T j p ≡ dot S i p
 unfolding dot
-dot-from S T i j [] h = refl
-dot-from S T i j (c ∷ p) h =
+dot_from S T i j [] h = refl
+dot_from S T i j (c ∷ p) h =
     ap₂ (λ (x y : ℕ). c · x ⊕ y) (ap T (sym (add-zero j)) ∙ h 0 ∙ ap S (add-zero i))
-    (dot-from S T (suc i) (suc j) p (λ k. ap T (suc-add j k ∙ sym (add-suc j k)) ∙ h (suc k) ∙ ap S (add-suc i k ∙ sym (suc-add i k))))
+    (dot_from S T (suc i) (suc j) p (λ k. ap T (suc-add j k ∙ sym (add-suc j k)) ∙ h (suc k) ∙ ap S (add-suc i k ∙ sym (suc-add i k))))
 
-pair-later : (p s : List ℕ) (i : ℕ) → dot (terms (take (length s - i) (drop i s))) 0 p ≡ dot (terms s) i p
+pair_later : (p s : List ℕ) (i : ℕ) → dot (terms (take (length s - i) (drop i s))) 0 p ≡ dot (terms s) i p
 unfolding terms
-pair-later p s i =
+pair_later p s i =
     ap (λ (l : List ℕ). dot (terms l) 0 p) (take_all (length s - i) (drop i s) (omega (arith, length-drop i s)))
-    ∙ dot-from (terms s) (terms (drop i s)) i 0 p (λ k. ap (λ (j : ℕ). get_or (drop i s) j 0) (zero-add k) ∙ get_or-drop i s k 0)
+    ∙ dot_from (terms s) (terms (drop i s)) i 0 p (λ k. ap (λ (j : ℕ). get_or (drop i s) j 0) (zero-add k) ∙ get_or-drop i s k 0)
 
-pub window-is : (s p : List ℕ) (i t : ℕ) → t ≡ dot (terms (take (length s - i) (drop i s))) 0 p → t ≡ windowed s p i
+pub window_is : (s p : List ℕ) (i t : ℕ) → t ≡ dot (terms (take (length s - i) (drop i s))) 0 p → t ≡ windowed s p i
 unfolding windowed
-window-is s p i t e = e ∙ pair-later p s i
+window_is s p i t e = e ∙ pair_later p s i
 
 -- ---- the loop that moves up, from the first coefficient that is not shifted in
 
-pub moved-starts : (p : List ℕ) (k : ℕ) → Filled (terms (shift_by k p)) 33 (replicate 33 0) k
+pub moved_starts : (p : List ℕ) (k : ℕ) → Filled (terms (shift_by k p)) 33 (replicate 33 0) k
 unfolding terms
-moved-starts p k = record { size = refl; each = λ i l. zero-at 33 i ∙ sym (at-shift-low k p i l) }
+moved_starts p k = record { size = refl; each = λ i l. zero-at 33 i ∙ sym (at_shift_low k p i l) }
 
-pub moved-turn : (p : List ℕ) (k : ℕ) (out : List ℕ) (j v : ℕ) → Filled (terms (shift_by k p)) 33 out j → j < 33 → k ≤ j → v ≡ get_or p (j - k) 0 → Filled (terms (shift_by k p)) 33 (set out j v) (j + 1)
+pub moved_turn : (p : List ℕ) (k : ℕ) (out : List ℕ) (j v : ℕ) → Filled (terms (shift_by k p)) 33 out j → j < 33 → k ≤ j → v ≡ get_or p (j - k) 0 → Filled (terms (shift_by k p)) 33 (set out j v) (j + 1)
 unfolding terms
-moved-turn p k out j v F h l e = filled-turn (terms (shift_by k p)) 33 out j v F h (e ∙ at-shift-high k p j l)
+moved_turn p k out j v F h l e = filled_turn (terms (shift_by k p)) 33 out j v F h (e ∙ at_shift_high k p j l)
 
 -- ---- the loop that multiplies by a root
 
-pub byRoot-turn : (z : ℕ) (p moved out : List ℕ) (j product : ℕ) → Filled (byRootAt z p) 33 out j → j < 33 → Filled (terms (shift_by 1 p)) 33 moved 33 → product ≡ z · get_or p j 0
-    → Filled (byRootAt z p) 33 (set out j (bit_xor (get_or moved j 0) product)) (j + 1)
-unfolding byRootAt terms
-byRoot-turn z p moved out j product F h M f = sum-turn (byRootAt z p) 33 out j (get_or moved j 0) product F h (ap₂ (λ (u v : ℕ). u ⊕ v) (M.each j h) f)
+pub by_root_turn : (z : ℕ) (p moved out : List ℕ) (j product : ℕ) → Filled (by_root_at z p) 33 out j → j < 33 → Filled (terms (shift_by 1 p)) 33 moved 33 → product ≡ z · get_or p j 0
+    → Filled (by_root_at z p) 33 (set out j (bit_xor (get_or moved j 0) product)) (j + 1)
+unfolding by_root_at terms
+by_root_turn z p moved out j product F h M f = sum_turn (by_root_at z p) 33 out j (get_or moved j 0) product F h (ap₂ (λ (u v : ℕ). u ⊕ v) (M.each j h) f)

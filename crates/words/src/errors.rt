@@ -1,6 +1,6 @@
 // The errors at the roots of a word's locator polynomial, for 16 roots at a time.
 ghost use Rattle.std.specs.Prelude.{◌≡◌, ◌+◌, ◌*◌, ◌%◌, ◌≤◌, min, length, replicate};
-ghost use Rattle.words.specs.Working.{Filled, terms, locatorPower, errorAtEach, CoefficientTaken, HoldsDivision, HoldsRoots, AreRoots, Placed, HoldsPlaces};
+ghost use Rattle.words.specs.Working.{Filled, terms, locator_power, error_at_each, CoefficientTaken, HoldsDivision, HoldsRoots, AreRoots, Placed, HoldsPlaces};
 
 use crate::inverses::inverses;
 use crate::locators::locators;
@@ -18,7 +18,7 @@ fn times_round(power: u8, m: usize) -> usize
 // The m-th powers of the locators of 16 places, which are locators too.
 fn locator_powers(powers: &[u8; 16], m: usize) -> [u8; 16]
     requires { m ≤ 128 }
-    ensures { Filled (locatorPower powers.now m) 16 result 16 }
+    ensures { Filled (locator_power powers.now m) 16 result 16 }
 {
     let list = locators();
     let mut out: [u8; 16] = [0; 16];
@@ -106,7 +106,7 @@ fn divided(s: &[u8], lambda: &[u8], locators: &[u8; 16]) -> Division
 // The error at each of 16 places, if it is a root; the syndromes s begin at the m-th power of beta.
 fn errors_at(s: &[u8], lambda: &[u8], powers: &[u8; 16], m: usize) -> [u8; 16]
     requires { m ≤ 128 }
-    ensures { Filled (errorAtEach s.now lambda.now m powers.now) 16 result 16 }
+    ensures { Filled (error_at_each s.now lambda.now m powers.now) 16 result 16 }
 {
     let locators = locator_powers(powers, 1);
     let q = divided(s, lambda, &locators);

@@ -1,7 +1,7 @@
 // The inverses of a row of field elements, by a list of all of them.
 ghost use Rattle.std.specs.Prelude.{◌≡◌};
-ghost use Rattle.field.specs.Field.{inverseOf};
-ghost use Rattle.words.specs.Working.{Filled, inverseAt};
+ghost use Rattle.field.specs.Field.{inverse_of};
+ghost use Rattle.words.specs.Working.{Filled, inverse_at};
 
 const INVERSES: [u8; 256] = [
     0x00, 0x01, 0xC3, 0x82, 0xA2, 0x7E, 0x41, 0x5A, 0x51, 0x36, 0x3F, 0xAC, 0xE3, 0x68, 0x2D, 0x2A,
@@ -23,20 +23,20 @@ const INVERSES: [u8; 256] = [
 ];
 
 fn inverse_list() -> [u8; 256]
-    ensures { Filled inverseOf 256 result 256 }
+    ensures { Filled inverse_of 256 result 256 }
 {
     INVERSES
 }
 
 fn listed_inverse(list: &[u8; 256], a: u8) -> u8
-    requires { Filled inverseOf 256 list.now 256 }
-    ensures { result ≡ inverseOf a }
+    requires { Filled inverse_of 256 list.now 256 }
+    ensures { result ≡ inverse_of a }
 {
     list[a as usize]
 }
 
 pub(crate) fn inverses(a: &[u8; 16]) -> [u8; 16]
-    ensures { Filled (inverseAt a.now) 16 result 16 }
+    ensures { Filled (inverse_at a.now) 16 result 16 }
 {
     let list = inverse_list();
     let mut out: [u8; 16] = [0; 16];

@@ -1,11 +1,11 @@
 // A word's symbols and errors, from line octets to conventional octets and back.
 ghost use Rattle.std.specs.Prelude.{◌≡◌, map, ◌≤◌, length};
-ghost use Rattle.field.specs.Line.{toLine};
-ghost use Rattle.words.specs.Working.{Filled, conventionalAt};
+ghost use Rattle.field.specs.Line.{to_line};
+ghost use Rattle.words.specs.Working.{Filled, conventional_at};
 
 pub(crate) fn conventional(sent: &[u8]) -> [u8; 255]
     requires { length sent.now ≤ 255 }
-    ensures { Filled (conventionalAt sent.now) 255 result (length sent.now) }
+    ensures { Filled (conventional_at sent.now) 255 result (length sent.now) }
 {
     let mut out: [u8; 255] = [0; 255];
     for i in 0..sent.len() {
@@ -17,7 +17,7 @@ pub(crate) fn conventional(sent: &[u8]) -> [u8; 255]
 
 // Zero is zero in both: only the few errors are converted.
 fn line_octet(error: u8) -> u8
-    ensures { result ≡ toLine error }
+    ensures { result ≡ to_line error }
 {
     if error == 0 {
         return 0;
@@ -27,7 +27,7 @@ fn line_octet(error: u8) -> u8
 
 pub(crate) fn on_line(errors: &[u8; 255]) -> [u8; 255]
     requires { length errors.now ≡ 255 }
-    ensures { result ≡ map toLine errors.now }
+    ensures { result ≡ map to_line errors.now }
 {
     let mut out: [u8; 255] = [0; 255];
     for i in 0..255 {

@@ -1,7 +1,7 @@
 // Polynomials over the field, lowest coefficient first.
 ghost use Rattle.std.specs.Prelude.{◌≡◌, ◌≤◌, length};
 ghost use Rattle.codewords.specs.Polynomials.{shift_by, dot};
-ghost use Rattle.words.specs.Working.{Filled, terms, byRootAt};
+ghost use Rattle.words.specs.Working.{Filled, terms, by_root_at};
 
 // The sum of the products, place by place.
 pub(crate) fn pair(p: &[u8], s: &[u8]) -> u8
@@ -29,7 +29,7 @@ pub(crate) fn moved_up(p: &[u8; 33], k: usize) -> [u8; 33]
 
 // (x + z) p.
 pub(crate) fn by_root(p: &[u8; 33], z: u8) -> [u8; 33]
-    ensures { Filled (byRootAt z p.now) 33 result 33 }
+    ensures { Filled (by_root_at z p.now) 33 result 33 }
 {
     let moved = moved_up(p, 1);
     let mut out: [u8; 33] = [0; 33];

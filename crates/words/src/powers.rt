@@ -1,5 +1,5 @@
 // The squares and the cubes of the first 96 locators. A cube has three roots, 85 places apart.
-ghost use Rattle.words.specs.Working.{Filled, powerOfEach};
+ghost use Rattle.words.specs.Working.{Filled, power_of_each};
 
 const SQUARES: [u8; 96] = [
     0x01, 0xBE, 0x3C, 0x56, 0x42, 0x70, 0x4E, 0xE3, 0xD9, 0x05, 0xCF, 0xCC, 0x89, 0xCD, 0x37, 0xF1,
@@ -20,13 +20,13 @@ const CUBES: [u8; 96] = [
 ];
 
 pub(crate) fn squares() -> [u8; 96]
-    ensures { Filled (powerOfEach 2) 96 result 96 }
+    ensures { Filled (power_of_each 2) 96 result 96 }
 {
     SQUARES
 }
 
 pub(crate) fn cubes() -> [u8; 96]
-    ensures { Filled (powerOfEach 3) 96 result 96 }
+    ensures { Filled (power_of_each 3) 96 result 96 }
 {
     CUBES
 }

@@ -1,7 +1,7 @@
 // The shortest register that gives a sequence of at most 32 field elements. Its polynomial is held from the top coefficient down, so that it can
 // grow where it stands; beside it stands by how much it fails at each term, which is worked on in the same way.
 ghost use Rattle.std.specs.Prelude.{◌≡◌, ◌+◌, ◌≤◌, ◌<◌, length};
-ghost use Rattle.words.specs.Working.{Filled, terms, behindZeros, PutBehind, blendedFrom, HoldsRegister, HoldsPolynomial};
+ghost use Rattle.words.specs.Working.{Filled, terms, behind_zeros, PutBehind, blended_from, HoldsRegister, HoldsPolynomial};
 
 // Its length and polynomial.
 #[derive(Drop)]
@@ -23,7 +23,7 @@ fn padded(s: &[u8]) -> [u8; 32]
 }
 
 fn behind_zeros(taps: &[u8; 32]) -> [u8; 65]
-    ensures { Filled (behindZeros taps.now) 65 result 65 }
+    ensures { Filled (behind_zeros taps.now) 65 result 65 }
 {
     let mut out: [u8; 65] = [0; 65];
     for j in 0usize..32 {
@@ -35,7 +35,7 @@ fn behind_zeros(taps: &[u8; 32]) -> [u8; 65]
 // b times the taps, and d times what is kept, from a place on.
 fn blended(taps: &[u8; 32], b: u8, kept: &[u8; 65], from: usize, d: u8) -> [u8; 32]
     requires { from ≤ 33 }
-    ensures { Filled (blendedFrom taps.now b kept.now from d) 32 result 32 }
+    ensures { Filled (blended_from taps.now b kept.now from d) 32 result 32 }
 {
     let mut out: [u8; 32] = [0; 32];
     for j in 0..32 {

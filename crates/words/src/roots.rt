@@ -2,7 +2,7 @@
 // parts at the cubes, and each part serves three places.
 ghost use Rattle.std.specs.Prelude.{◌≡◌, ◌+◌, ◌*◌, ◌≤◌, ◌<◌, length};
 ghost use Rattle.codewords.specs.Locators.{X};
-ghost use Rattle.words.specs.Working.{Filled, powerOfEach, valuesFrom, InThirds, Joined, RowPut, OneMore, HoldsRoots};
+ghost use Rattle.words.specs.Working.{Filled, power_of_each, values_from, InThirds, Joined, RowPut, OneMore, HoldsRoots};
 
 use crate::locators::locators;
 use crate::powers::{cubes, squares};
@@ -79,8 +79,8 @@ fn values_at(
     cubes: &[u8; 96],
     at: usize,
 ) -> Thirds
-    requires { (length lambda.now ≡ 3 * parts) × (parts ≤ 11) × Filled X 255 locators.now 255 × Filled (powerOfEach 2) 96 squares.now 96 × Filled (powerOfEach 3) 96 cubes.now 96 × (at + 16 ≤ 96) }
-    ensures { Filled (valuesFrom lambda.now at) 16 result.first 16 × Filled (valuesFrom lambda.now (85 + at)) 16 result.second 16 × Filled (valuesFrom lambda.now (170 + at)) 16 result.third 16 }
+    requires { (length lambda.now ≡ 3 * parts) × (parts ≤ 11) × Filled X 255 locators.now 255 × Filled (power_of_each 2) 96 squares.now 96 × Filled (power_of_each 3) 96 cubes.now 96 × (at + 16 ≤ 96) }
+    ensures { Filled (values_from lambda.now at) 16 result.first 16 × Filled (values_from lambda.now (85 + at)) 16 result.second 16 × Filled (values_from lambda.now (170 + at)) 16 result.third 16 }
 {
     let points = row_from(cubes, at);
     let parted = in_thirds(lambda, parts, &points);
@@ -101,7 +101,7 @@ fn put_row(values: &mut [u8], at: usize, row: &[u8; 16])
 // The values at all places. Rows overlap there, and have the same values where they do.
 fn values_everywhere(lambda: &[u8], parts: usize) -> [u8; 288]
     requires { (length lambda.now ≡ 3 * parts) × (parts ≤ 11) }
-    ensures { Filled (valuesFrom lambda.now 0) 288 result 266 }
+    ensures { Filled (values_from lambda.now 0) 288 result 266 }
 {
     let listed = locators();
     let squared = squares();

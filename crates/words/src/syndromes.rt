@@ -1,8 +1,8 @@
 // The syndromes: the values of a word at 32 powers of beta, all in one pass over its symbols.
 ghost use Rattle.std.specs.Prelude.{◌≡◌, true, map, ℕ, ◌+◌, ◌-◌, ◌≤◌, ◌<◌, get_or, length, take, replicate};
-ghost use Rattle.field.specs.Line.{toConventional};
+ghost use Rattle.field.specs.Line.{to_conventional};
 ghost use Rattle.codewords.specs.Locators.{syndromes};
-ghost use Rattle.words.specs.Working.{Filled, hornerAt, laterAt};
+ghost use Rattle.words.specs.Working.{Filled, horner_at, later_at};
 
 use crate::line::conventional;
 use crate::locators::locators;
@@ -10,7 +10,7 @@ use crate::locators::locators;
 // 32 of the locators, from a place on.
 fn points_from(list: &[u8], from: usize) -> [u8; 32]
     requires { from + 32 ≤ length list.now }
-    ensures { Filled (laterAt list.now from) 32 result 32 }
+    ensures { Filled (later_at list.now from) 32 result 32 }
 {
     let mut out: [u8; 32] = [0; 32];
     for i in 0..32 {
@@ -22,7 +22,7 @@ fn points_from(list: &[u8], from: usize) -> [u8; 32]
 // One symbol more, by Horner's rule at every point. It is called at one place only, so that the compiler puts it there, however often the
 // decoder of a word is itself called.
 fn with_next(sums: &[u8; 32], points: &[u8; 32], symbol: u8) -> [u8; 32]
-    ensures { Filled (hornerAt sums.now points.now symbol) 32 result 32 }
+    ensures { Filled (horner_at sums.now points.now symbol) 32 result 32 }
 {
     let mut out: [u8; 32] = [0; 32];
     for i in 0..32 {
@@ -62,7 +62,7 @@ fn zeros_before(sent: &[u8]) -> usize
 // Those of a word at the zeros of its code. Zeros in front add nothing to a value: a word of which only the checks are left is quickly done.
 pub(crate) fn syndromes_of(e: usize, sent: &[u8]) -> [u8; 32]
     requires { (e ≤ 16) × (length sent.now ≤ 255) }
-    ensures { Filled (syndromes (128 - e) (map toConventional sent.now)) 32 result 32 }
+    ensures { Filled (syndromes (128 - e) (map to_conventional sent.now)) 32 result 32 }
 {
     let first = zeros_before(sent);
     let n = sent.len() - first;

@@ -3,10 +3,10 @@ use borrow.Author.Rules.{rules}
 use mathlib.Core.Path.{refl, sym, ap, ◌∙◌}
 use native.Mathlib.Omega.{arith}
 use lib.ListN.{length}
-use Rattle.refusals.specs.Calls.{coderCloseOrder}
+use Rattle.refusals.specs.Calls.{coder_close_order}
 use Rattle.refusals.proofs.Verdicts.{passed}
-use Rattle.convolution.specs.Coder.{firstOctet}
-use Rattle.convolution.proofs.Outcomes.{LegalClose, legal-close, close-refused, close-done, closed_none, closed_some}
+use Rattle.convolution.specs.Coder.{first_octet}
+use Rattle.convolution.proofs.Outcomes.{LegalClose, legal_close, close_refused, close_done, closed_none, closed_some}
 use Rattle.convolution.proofs.close.Statement.{statement}
 use Rattle.convolution.proofs.close.Tie as tie
 
@@ -17,7 +17,7 @@ enum-known-checked : tie.Need-enum-known-checked
 enum-known-checked c = search rules
 
 returns : tie.Need-returns
-returns c = close-refused _ _ _ _ c.before.before.before.coder-close-parameters.ensures _ c.before.checked.given.1
+returns c = close_refused _ _ _ _ c.before.before.before.coder-close-parameters.ensures _ c.before.checked.given.1
 
 enum_told : tie.Need-enum-told
 enum_told c = search rules
@@ -30,14 +30,14 @@ legal : (c : tie.After-enum-told) → LegalClose c.before.before.before.before.a
 legal c =
     let start = c.before.before.before.before in
     let checked = c.before.before.coder-close-parameters in
-    legal-close start.args.rate start.args.state _ (passed (coderCloseOrder _ _ _ _ _) checked.result c.enum_told.given.1 checked.ensures)
+    legal_close start.args.rate start.args.state _ (passed (coder_close_order _ _ _ _ _) checked.result c.enum_told.given.1 checked.ensures)
 
 returns-2 : tie.Need-returns-2
 returns-2 c =
     let start = c.before.before.before.before.before.before in
     let checked = c.before.before.before.before.coder-close-parameters in
     let none = c.if1.true in
-    close-done start.args.rate start.args.state start.args.symbols.now checked.result checked.ensures 0 start.args.symbols.now c.before.before.enum_told.given.1 (sym none)
+    close_done start.args.rate start.args.state start.args.symbols.now checked.result checked.ensures 0 start.args.symbols.now c.before.before.enum_told.given.1 (sym none)
     (closed_none start.args.state start.args.symbols.now none (legal c.before.before).room)
 
 returns-3 : tie.Need-returns-3
@@ -45,8 +45,8 @@ returns-3 c =
     let start = c.before.before.before.before.before.before.before.before in
     let checked = c.before.before.before.before.before.before.coder-close-parameters in
     let known = legal c.before.before.before.before in
-    close-done start.args.rate start.args.state start.args.symbols.now checked.result checked.ensures start.args.state.holds _ c.before.before.before.before.enum_told.given.1 refl
-    (closed_some start.args.state start.args.symbols.now c.last-octet.result (omega (arith, c.before.before.if1.false)) known.coder.holds known.room (c.last-octet.ensures ∙ ap firstOctet c.before.top-bits.ensures.0))
+    close_done start.args.rate start.args.state start.args.symbols.now checked.result checked.ensures start.args.state.holds _ c.before.before.before.before.enum_told.given.1 refl
+    (closed_some start.args.state start.args.symbols.now c.last-octet.result (omega (arith, c.before.before.if1.false)) known.coder.holds known.room (c.last-octet.ensures ∙ ap first_octet c.before.top-bits.ensures.0))
 
 top-bits-requires : tie.Need-top-bits-requires
 top-bits-requires c κs = (legal c.before.before).coder.holds

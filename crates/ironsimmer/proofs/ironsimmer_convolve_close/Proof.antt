@@ -1,5 +1,5 @@
 -- `ironsimmer_convolve_close`: the call beneath on the state that is lent.
-use Rattle.ironsimmer.proofs.Running.{convolve-close-called}
+use Rattle.ironsimmer.proofs.Running.{convolve_close_called}
 use borrow.Author.Rules.{rules}
 use Rattle.ironsimmer.proofs.ironsimmer_convolve_close.Statement.{statement}
 use Rattle.ironsimmer.proofs.ironsimmer_convolve_close.Tie as tie
@@ -17,7 +17,7 @@ same_length : tie.Need-same-length
 same_length c = search rules
 
 returns : tie.Need-returns
-returns c = convolve-close-called c.before.before.before.before.before.before.before.before.args.rate _ _ c.before.before.before.before.before.before.state-of.ensures _ _ _ _ _ _ c.put_count.ensures c.before.before.before.before.close.ensures
+returns c = convolve_close_called c.before.before.before.before.before.before.before.before.args.rate _ _ c.before.before.before.before.before.before.state-of.ensures _ _ _ _ _ _ c.put_count.ensures c.before.before.before.before.close.ensures
 
 pub ironsimmer-convolve-close-spec : {M : Type 1} → statement M
 ironsimmer-convolve-close-spec =

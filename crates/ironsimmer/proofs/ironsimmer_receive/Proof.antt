@@ -1,5 +1,5 @@
 -- `ironsimmer_receive`: delivered with the report in place, or refused with it as it was.
-use Rattle.chain.proofs.Stages.{receive-sizes}
+use Rattle.chain.proofs.Stages.{receive_sizes}
 use Rattle.ironsimmer.proofs.Answers.{receive-delivered, receive-refused}
 use borrow.Author.Rules.{rules}
 use Rattle.ironsimmer.proofs.ironsimmer_receive.Statement.{statement}
@@ -27,7 +27,7 @@ truth-number-requires : tie.Need-truth-number-requires
 truth-number-requires c κs = search rules
 
 reception-of-requires : tie.Need-reception-of-requires
-reception-of-requires c κs = (receive-sizes _ _ _ _ _ _ _ _ _ _ _ _ _ c.before.before.before.before.before.before.receive.ensures).1
+reception-of-requires c κs = (receive_sizes _ _ _ _ _ _ _ _ _ _ _ _ _ c.before.before.before.before.before.before.receive.ensures).1
 
 same-length-2 : tie.Need-same-length-2
 same-length-2 c = search rules

@@ -1,7 +1,7 @@
 -- `main`: the range bounds the loop, and the text of every piece is within its octets.
 use Prim.Native.Nat.{◌-◌}
 use borrow.Author.Rules.{rules}
-use Rattle.report_pieces.proofs.Texts.{piece-within, piece-counted}
+use Rattle.report_pieces.proofs.Texts.{piece_within, piece_counted}
 use Rattle.report.proofs.main.Statement.{statement}
 use Rattle.report.proofs.main.Tie as tie
 
@@ -36,10 +36,10 @@ piece-requires : tie.Need-piece-requires invariant-loop decreases-loop
 piece-requires c κs = search rules
 
 array-share-prefix-line : tie.Need-array-share-prefix-line invariant-loop decreases-loop
-array-share-prefix-line c = piece-within _ _ _ c.before.piece.ensures
+array-share-prefix-line c = piece_within _ _ _ c.before.piece.ensures
 
 slice-aggregate-written : tie.Need-slice-aggregate-written invariant-loop decreases-loop
-slice-aggregate-written c = piece-counted _ _ _ c.before.before.piece.ensures
+slice-aggregate-written c = piece_counted _ _ _ c.before.before.piece.ensures
 
 written-requires : tie.Need-written-requires invariant-loop decreases-loop
 written-requires c κs = search rules

@@ -5,12 +5,12 @@ use Prim.Native.Nat.{ℕ}
 use borrow.Author.Rules.{rules}
 use Rattle.chain.specs.declared.Received.{Received}
 use Rattle.report_lines.specs.declared.ReportLine.{ReportLine}
-use Rattle.report_pieces.specs.Pieces.{answeredLine}
+use Rattle.report_pieces.specs.Pieces.{answered_line}
 use Rattle.report_pieces.proofs.answered_line.Statement.{statement}
 use Rattle.report_pieces.proofs.answered_line.Tie as tie
 
-told : (block total : ℕ) (turned : Bool) {answer kind : Received} → answer ≡ kind → answeredLine block kind total turned ≡ answeredLine block answer total turned
-told block total turned e = ap {B = ReportLine} (λ (x : Received). answeredLine block x total turned) (sym e)
+told : (block total : ℕ) (turned : Bool) {answer kind : Received} → answer ≡ kind → answered_line block kind total turned ≡ answered_line block answer total turned
+told block total turned e = ap {B = ReportLine} (λ (x : Received). answered_line block x total turned) (sym e)
 
 enum_told : tie.Need-enum-told
 enum_told c = search rules

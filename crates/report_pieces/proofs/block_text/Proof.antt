@@ -3,7 +3,7 @@ use mathlib.Core.Path.{subst}
 use borrow.Author.Rules.{rules}
 use Rattle.report_lines.specs.declared.ReportLine.{ReportLine}
 use Rattle.report_lines.specs.Text.{LineOutcome}
-use Rattle.report_pieces.specs.Pieces.{emptyFrame}
+use Rattle.report_pieces.specs.Pieces.{empty_frame}
 use Rattle.report_pieces.proofs.block_text.Statement.{statement}
 use Rattle.report_pieces.proofs.block_text.Tie as tie
 
@@ -20,7 +20,7 @@ line-requires : tie.Need-line-requires
 line-requires c κs = search rules
 
 returns : tie.Need-returns
-unfolding emptyFrame
+unfolding empty_frame
 returns c =
     record {
       answer = c.before.before.before.receive.result.answer;

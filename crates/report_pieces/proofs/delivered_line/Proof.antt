@@ -3,12 +3,12 @@ use mathlib.Core.Path.{◌≡◌, sym, ap}
 use mathlib.Core.Bool.{Bool}
 use Prim.Native.Nat.{ℕ}
 use Rattle.report_lines.specs.declared.ReportLine.{ReportLine}
-use Rattle.report_pieces.specs.Pieces.{deliveredLine}
+use Rattle.report_pieces.specs.Pieces.{delivered_line}
 use Rattle.report_pieces.proofs.delivered_line.Statement.{statement}
 use Rattle.report_pieces.proofs.delivered_line.Tie as tie
 
-told : (block total : ℕ) {turned flag : Bool} → turned ≡ flag → deliveredLine block total flag ≡ deliveredLine block total turned
-told block total e = ap {B = ReportLine} (λ (x : Bool). deliveredLine block total x) (sym e)
+told : (block total : ℕ) {turned flag : Bool} → turned ≡ flag → delivered_line block total flag ≡ delivered_line block total turned
+told block total e = ap {B = ReportLine} (λ (x : Bool). delivered_line block total x) (sym e)
 
 returns : tie.Need-returns
 returns c = told c.before.args.block c.before.args.total c.if1.true

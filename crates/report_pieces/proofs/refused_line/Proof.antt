@@ -7,12 +7,12 @@ use Rattle.report_lines.specs.declared.ReportLine.{ReportLine}
 use Rattle.report_lines.specs.declared.ReportLine.TheVariants.{Refused}
 use Rattle.chain.specs.declared.Stage.{Stage}
 use Rattle.chain.specs.declared.Stage.TheVariants.{Word}
-use Rattle.report_pieces.specs.Pieces.{refusedLine}
+use Rattle.report_pieces.specs.Pieces.{refused_line}
 use Rattle.report_pieces.proofs.refused_line.Statement.{statement}
 use Rattle.report_pieces.proofs.refused_line.Tie as tie
 
-told : (block : ℕ) {stage kind : Stage} → stage ≡ kind → refusedLine block kind ≡ refusedLine block stage
-told block e = ap {B = ReportLine} (λ (x : Stage). refusedLine block x) (sym e)
+told : (block : ℕ) {stage kind : Stage} → stage ≡ kind → refused_line block kind ≡ refused_line block stage
+told block e = ap {B = ReportLine} (λ (x : Stage). refused_line block x) (sym e)
 
 enum-known-stage : tie.Need-enum-known-stage
 enum-known-stage c = search rules

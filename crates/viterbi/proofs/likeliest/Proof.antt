@@ -6,13 +6,13 @@ use native.Mathlib.Omega.{arith}
 use borrow.Author.Rules.{rules}
 use lib.ListN.{length, get_or, replicate, length-replicate}
 use Rattle.refusals.specs.Order.{FirstOf}
-use Rattle.refusals.specs.Calls.{likeliestOrder}
+use Rattle.refusals.specs.Calls.{likeliest_order}
 use Rattle.refusals.proofs.Verdicts.{passed}
-use Rattle.refusals.proofs.Legal.{LegalLikeliest, accepted-likeliest}
+use Rattle.refusals.proofs.Legal.{LegalLikeliest, accepted_likeliest}
 use Rattle.convolution.specs.Coder.{bits_of}
 use Rattle.convolution.proofs.Bits.{bits-length}
-use Rattle.viterbi.proofs.Spread.{to-go-most}
-use Rattle.viterbi.proofs.Outcomes.{refused-as-checked, path-found}
+use Rattle.viterbi.proofs.Spread.{to_go_most}
+use Rattle.viterbi.proofs.Outcomes.{refused_as_checked, path_found}
 use Rattle.viterbi.proofs.likeliest.Statement.{statement}
 use Rattle.viterbi.proofs.likeliest.Tie as tie
 
@@ -25,22 +25,22 @@ enum-known-checked c = search rules
 returns : tie.Need-returns
 returns c =
     let checked = c.before.before.before.likeliest-parameters in
-    refused-as-checked _ _ _ checked.result _ c.before.checked.given.1 checked.ensures
+    refused_as_checked _ _ _ checked.result _ c.before.checked.given.1 checked.ensures
 
 enum_told : tie.Need-enum-told
 enum_told c = search rules
 
 accepted : (c : tie.After-enum-told) →
     let args = c.before.before.before.before.before.args in
-    FirstOf (likeliestOrder args.register (length args.symbols.now) (length args.«data».now)) 0
+    FirstOf (likeliest_order args.register (length args.symbols.now) (length args.«data».now)) 0
 accepted c =
     let checked = c.before.before.likeliest-parameters in
-    passed (likeliestOrder _ _ _) checked.result c.enum_told.given.1 checked.ensures
+    passed (likeliest_order _ _ _) checked.result c.enum_told.given.1 checked.ensures
 
 legal : (c : tie.After-enum-told) →
     let args = c.before.before.before.before.before.args in
     LegalLikeliest args.register (length args.symbols.now) (length args.«data».now)
-legal c = accepted-likeliest _ _ _ (accepted c)
+legal c = accepted_likeliest _ _ _ (accepted c)
 
 rows-back-requires : tie.Need-rows-back-requires
 rows-back-requires c κs =
@@ -63,7 +63,7 @@ add-places c =
     let s = args.symbols.now in
     let back = c.before.before.before.rows_back in
     let place = ap (λ (p : ℕ). get_or back.result.costs p 0) c.before.turned.ensures.0 in
-    omega (arith, l.limit, place, back.ensures.0.at args.register l.register, to-go-most (bits_of s) args.register, bits-length s)
+    omega (arith, l.limit, place, back.ensures.0.at args.register l.register, to_go_most (bits_of s) args.register, bits-length s)
 
 walk-requires : tie.Need-walk-requires
 walk-requires c κs =
@@ -81,7 +81,7 @@ returns-2 c =
     let told = c.before.before.before.before.before.before.before.before.before.before in
     let args = told.before.before.before.before.before.args in
     let back = c.before.before.before.before.before.before.before.before.rows_back in
-    path-found args.register args.symbols.now args.«data».now _ back.result.costs back.result.base _ _ (accepted told) back.ensures.0 c.before.before.before.before.before.before.turned.ensures.0 c.before.before.walk.ensures.1
+    path_found args.register args.symbols.now args.«data».now _ back.result.costs back.result.base _ _ (accepted told) back.ensures.0 c.before.before.before.before.before.before.turned.ensures.0 c.before.before.walk.ensures.1
 
 pub likeliest-spec : {M : Type 1} → statement M
 likeliest-spec =

@@ -4,9 +4,9 @@ use native.Mathlib.Omega.{arith}
 use lib.ListN.{length, length-take}
 use lib.Seq.{length-take-le}
 use borrow.Author.Rules.{rules}
-use Rattle.refusals.proofs.Legal.{strength-bounds}
-use Rattle.codewords.proofs.WordValues.{octets-of}
-use Rattle.words.proofs.Outcomes.{take-clear, not-found-is, none-good, found-good}
+use Rattle.refusals.proofs.Legal.{strength_bounds}
+use Rattle.codewords.proofs.WordValues.{octets_of_lem}
+use Rattle.words.proofs.Outcomes.{take_clear, not_found_is, none_good, found_good}
 use Rattle.words.proofs.errors_of_legal.Statement.{statement}
 use Rattle.words.proofs.errors_of_legal.Tie as tie
 
@@ -14,7 +14,7 @@ add-zeros : tie.Need-overflow-add-zeros
 add-zeros c = search rules
 
 syndromes-of-requires : tie.Need-syndromes-of-requires
-syndromes-of-requires c κs = ((strength-bounds _ c.before.requires.strength).1, c.before.requires.most)
+syndromes-of-requires c κs = ((strength_bounds _ c.before.requires.strength).1, c.before.requires.most)
 
 no-marks-requires : tie.Need-no-marks-requires
 no-marks-requires c κs = search rules
@@ -26,10 +26,10 @@ slice-aggregate-decode-word : tie.Need-slice-aggregate-decode-word
 slice-aggregate-decode-word c = sym (length-take-le _ _ (omega (arith, c.before.no-marks.ensures.0, c.before.before.before.before.requires.most)))
 
 array-share-prefix-sums : tie.Need-array-share-prefix-sums
-array-share-prefix-sums c = omega (arith, (strength-bounds _ c.before.before.before.before.requires.strength).1)
+array-share-prefix-sums c = omega (arith, (strength_bounds _ c.before.before.before.before.requires.strength).1)
 
 slice-aggregate-decode-word-2 : tie.Need-slice-aggregate-decode-word-2
-slice-aggregate-decode-word-2 c = sym (length-take-le _ _ (omega (arith, c.before.before.before.syndromes-of.ensures.size, (strength-bounds _ c.before.before.before.before.before.requires.strength).1)))
+slice-aggregate-decode-word-2 c = sym (length-take-le _ _ (omega (arith, c.before.before.before.syndromes-of.ensures.size, (strength_bounds _ c.before.before.before.before.before.requires.strength).1)))
 
 sub-decode-word : tie.Need-overflow-sub-decode-word
 sub-decode-word c = search rules
@@ -37,11 +37,11 @@ sub-decode-word c = search rules
 decode-word-requires : tie.Need-decode-word-requires
 decode-word-requires c κs = (
   simp length-take (omega (arith, c.before.before.before.before.before.requires.most)),
-  sym (take-clear (length c.before.before.before.before.before.args.sent.now) _ c.before.before.no-marks.ensures.1),
+  sym (take_clear (length c.before.before.before.before.before.args.sent.now) _ c.before.before.no-marks.ensures.1),
   omega arith,
   c.before.before.before.before.before.requires.allowance,
-  (strength-bounds _ c.before.before.before.before.before.requires.strength).1,
-  length-take-le _ _ (omega (arith, c.before.before.before.syndromes-of.ensures.size, (strength-bounds _ c.before.before.before.before.before.requires.strength).1)),
+  (strength_bounds _ c.before.before.before.before.before.requires.strength).1,
+  length-take-le _ _ (omega (arith, c.before.before.before.syndromes-of.ensures.size, (strength_bounds _ c.before.before.before.before.before.requires.strength).1)),
 )
 
 not-found-requires : tie.Need-not-found-requires
@@ -49,9 +49,9 @@ not-found-requires c κs = search rules
 
 returns : tie.Need-returns
 returns c =
-    not-found-is _ _ c.before.before.before.before.before.before.before.before.args.sent.now _ _ _ c.not_found.ensures.0 c.not_found.ensures.1 c.not_found.ensures.2
-    (λ legal. none-good _ _ c.before.before.before.before.before.before.before.before.args.sent.now c.before.before.before.before.before.before.before.before.requires
-    (octets-of c.before.before.before.before.before.before.before.before.args.sent.now (λ i. omega (arith, c.before.before.before.before.before.before.before.shared-slice-known.given i))) _ c.before.before.before.before.before.before.syndromes-of.ensures _
+    not_found_is _ _ c.before.before.before.before.before.before.before.before.args.sent.now _ _ _ c.not_found.ensures.0 c.not_found.ensures.1 c.not_found.ensures.2
+    (λ legal. none_good _ _ c.before.before.before.before.before.before.before.before.args.sent.now c.before.before.before.before.before.before.before.before.requires
+    (octets_of_lem c.before.before.before.before.before.before.before.before.args.sent.now (λ i. omega (arith, c.before.before.before.before.before.before.before.shared-slice-known.given i))) _ c.before.before.before.before.before.before.syndromes-of.ensures _
     c.before.before.before.before.before.no-marks.ensures.0 c.before.before.before.before.before.no-marks.ensures.1 _ _ _ c.before.before.decode-word.ensures.1 c.before.if1.true)
 
 on-line-requires : tie.Need-on-line-requires
@@ -62,8 +62,8 @@ cast-t24 c = search rules
 
 returns-2 : tie.Need-returns-2
 returns-2 c =
-    found-good _ _ c.before.before.before.before.before.before.before.before.before.before.args.sent.now c.before.before.before.before.before.before.before.before.before.before.requires
-    (octets-of c.before.before.before.before.before.before.before.before.before.before.args.sent.now (λ i. omega (arith, c.before.before.before.before.before.before.before.before.before.shared-slice-known.given i))) _ c.before.before.before.before.before.before.before.before.syndromes-of.ensures _
+    found_good _ _ c.before.before.before.before.before.before.before.before.before.before.args.sent.now c.before.before.before.before.before.before.before.before.before.before.requires
+    (octets_of_lem c.before.before.before.before.before.before.before.before.before.before.args.sent.now (λ i. omega (arith, c.before.before.before.before.before.before.before.before.before.shared-slice-known.given i))) _ c.before.before.before.before.before.before.before.before.syndromes-of.ensures _
     c.before.before.before.before.before.before.before.no-marks.ensures.0 c.before.before.before.before.before.before.before.no-marks.ensures.1 _ _ _ c.before.before.before.before.decode-word.ensures.1
     c.before.before.before.if1.false _ c.on_line.ensures
 

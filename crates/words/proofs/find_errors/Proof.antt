@@ -1,7 +1,7 @@
 -- `find_errors`: a word that is not legal is not found; a legal one is decoded.
 use borrow.Author.Rules.{rules}
 use Rattle.refusals.proofs.Orders.{denied, granted}
-use Rattle.words.proofs.Outcomes.{not-found-is}
+use Rattle.words.proofs.Outcomes.{not_found_is}
 use Rattle.words.proofs.find_errors.Statement.{statement}
 use Rattle.words.proofs.find_errors.Tie as tie
 
@@ -13,7 +13,7 @@ not-found-requires c κs = search rules
 
 returns : tie.Need-returns
 returns c =
-    not-found-is _ _ _ _ _ _ c.not_found.ensures.0 c.not_found.ensures.1 c.not_found.ensures.2
+    not_found_is _ _ _ _ _ _ c.not_found.ensures.0 c.not_found.ensures.1 c.not_found.ensures.2
     (λ legal. absurd (denied c.before.before.legal-word.result _ c.before.if1.true c.before.before.legal-word.ensures legal))
 
 errors-of-legal-requires : tie.Need-errors-of-legal-requires

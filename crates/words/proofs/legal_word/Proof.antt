@@ -1,7 +1,7 @@
 -- `legal_word` tests what a legal word must be, part by part.
 use native.Mathlib.Omega.{arith}
 use borrow.Author.Rules.{rules}
-use Rattle.refusals.proofs.Legal.{strength-bounds}
+use Rattle.refusals.proofs.Legal.{strength_bounds}
 use Rattle.refusals.proofs.Orders.{denied, granted}
 use Rattle.refusals.specs.Order.{OneOf}
 use Rattle.refusals.specs.Sizes.{strengths}
@@ -18,7 +18,7 @@ returns-2 : tie.Need-returns-2
 returns-2 c = λ w. omega (arith, w.allowance)
 
 mul-if3 : tie.Need-overflow-mul-if3
-mul-if3 c = omega (arith, (strength-bounds c.before.before.before.before.args.e (granted c.before.before.strength-legal.result (OneOf strengths c.before.before.before.before.args.e) c.before.if1.false c.before.before.strength-legal.ensures)).1)
+mul-if3 c = omega (arith, (strength_bounds c.before.before.before.before.args.e (granted c.before.before.strength-legal.result (OneOf strengths c.before.before.before.before.args.e) c.before.if1.false c.before.before.strength-legal.ensures)).1)
 
 returns-3 : tie.Need-returns-3
 returns-3 c = λ w. omega (arith, w.enough)

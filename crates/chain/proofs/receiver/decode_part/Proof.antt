@@ -1,5 +1,5 @@
 -- `decode_part`: the front of the copy is the block opened, and decode's outcome for it is the part's.
-use Rattle.chain.proofs.Receptions.{opened-size, part-delivered, part-refused}
+use Rattle.chain.proofs.Receptions.{opened_size, part_delivered, part_refused}
 use borrow.Author.Rules.{rules}
 use Rattle.chain.proofs.receiver.decode_part.Statement.{statement}
 use Rattle.chain.proofs.receiver.decode_part.Tie as tie
@@ -16,7 +16,7 @@ array-share-prefix-opened c = search rules
 slice-aggregate-decode : tie.Need-slice-aggregate-decode
 slice-aggregate-decode c =
     let a = c.before.before.before.before.before.before.args in
-    opened-size a.inverted a.randomised a.block.now _ c.before.before.open_block.ensures.1
+    opened_size a.inverted a.randomised a.block.now _ c.before.before.open_block.ensures.1
 
 decode-requires : tie.Need-decode-requires
 decode-requires c κs = search rules
@@ -35,7 +35,7 @@ returns c =
     let decoding = c.before.before.before.before.before.before in
     let opening = decoding.before.before.before.before in
     let a = opening.before.before.before.before.args in
-    part-refused a.e a.depth a.fill a.s _ a.frame.now _ a.inverted _ _ _ _ opening.open_block.ensures.1 decoding.decode.ensures _
+    part_refused a.e a.depth a.fill a.s _ a.frame.now _ a.inverted _ _ _ _ opening.open_block.ensures.1 decoding.decode.ensures _
     c.before.before.answer.given.1 _ _ _ _ c.refused.ensures
 
 enum_told : tie.Need-enum-told
@@ -49,7 +49,7 @@ returns-2 c =
     let decoding = c.before.before.before.before.before in
     let opening = decoding.before.before.before.before in
     let a = opening.before.before.before.before.args in
-    part-delivered a.e a.depth a.fill a.s _ a.frame.now _ a.inverted _ _ _ _ opening.open_block.ensures.1 decoding.decode.ensures
+    part_delivered a.e a.depth a.fill a.s _ a.frame.now _ a.inverted _ _ _ _ opening.open_block.ensures.1 decoding.decode.ensures
     c.before.enum_told.given.1
 
 pub decode-part-spec : {M : Type 1} → statement M

@@ -3,7 +3,7 @@ use Prim.Native.Nat.{◌≤◌}
 use native.Mathlib.Omega.{arith}
 use lib.ListN.{length}
 use borrow.Author.Rules.{rules}
-use Rattle.chain.proofs.Transmissions.{marker-fits, never-refused, block-fits, lent-within, transmit-refuses, transmit-accepts}
+use Rattle.chain.proofs.Transmissions.{marker_fits, never_refused, block_fits, lent_within, transmit_refuses, transmit_accepts}
 use Rattle.chain.proofs.transmitter.transmit.Statement.{statement}
 use Rattle.chain.proofs.transmitter.transmit.Tie as tie
 
@@ -14,7 +14,7 @@ enum-known-verdict : tie.Need-enum-known-verdict
 enum-known-verdict c = search rules
 
 returns : tie.Need-returns
-returns c = transmit-refuses _ _ _ _ _ _ c.before.before.before.transmit-parameters.result c.before.before.before.transmit-parameters.ensures _ c.before.verdict.given.1
+returns c = transmit_refuses _ _ _ _ _ _ c.before.before.before.transmit-parameters.result c.before.before.before.transmit-parameters.ensures _ c.before.verdict.given.1
 
 enum_told : tie.Need-enum-told
 enum_told c = search rules
@@ -22,12 +22,12 @@ enum_told c = search rules
 sub-encode : tie.Need-overflow-sub-encode
 sub-encode c =
     let a = c.before.before.before.before.before.args in
-    marker-fits a.e a.depth a.fill a.randomised a.frame.now a.marked.now c.before.before.transmit-parameters.result c.before.before.transmit-parameters.ensures c.enum_told.given.1
+    marker_fits a.e a.depth a.fill a.randomised a.frame.now a.marked.now c.before.before.transmit-parameters.result c.before.before.transmit-parameters.ensures c.enum_told.given.1
 
 part-encode-start : tie.Need-slice-bounds-encode-start
 part-encode-start c =
     let a = c.before.before.before.before.before.args in
-    let fits : 4 ≤ length a.marked.now = marker-fits a.e a.depth a.fill a.randomised a.frame.now a.marked.now c.before.before.transmit-parameters.result c.before.before.transmit-parameters.ensures c.enum_told.given.1 in
+    let fits : 4 ≤ length a.marked.now = marker_fits a.e a.depth a.fill a.randomised a.frame.now a.marked.now c.before.before.transmit-parameters.result c.before.before.transmit-parameters.ensures c.enum_told.given.1 in
     search rules
 
 part-encode-end : tie.Need-slice-bounds-encode-end
@@ -45,7 +45,7 @@ same_length c = search rules
 returns-2 : tie.Need-returns-2
 returns-2 c =
     let a = c.before.before.before.before.before.before.before.before.before.before.before.before.args in
-    absurd (never-refused a.e a.depth a.fill a.randomised a.frame.now a.marked.now c.before.before.before.before.before.before.before.before.before.transmit-parameters.result c.before.before.before.before.before.before.before.before.before.transmit-parameters.ensures c.before.before.before.before.before.before.before.enum_told.given.1 _ _ c.before.before.before.before.before.encode.ensures _ c.before.coded.given.1)
+    absurd (never_refused a.e a.depth a.fill a.randomised a.frame.now a.marked.now c.before.before.before.before.before.before.before.before.before.transmit-parameters.result c.before.before.before.before.before.before.before.before.before.transmit-parameters.ensures c.before.before.before.before.before.before.before.enum_told.given.1 _ _ c.before.before.before.before.before.encode.ensures _ c.before.coded.given.1)
 
 enum-told-2 : tie.Need-enum-told-2
 enum-told-2 c = search rules
@@ -59,12 +59,12 @@ copy-front-requires c κs = search rules
 sub-randomise-if : tie.Need-overflow-sub-randomise-if
 sub-randomise-if c =
     let a = c.before.before.before.before.before.before.before.before.before.before.before.before.before.before.before.before.args in
-    omega (arith, block-fits a.e a.depth a.fill a.randomised a.frame.now a.marked.now c.before.before.before.before.before.before.before.before.before.before.before.before.before.transmit-parameters.result c.before.before.before.before.before.before.before.before.before.before.before.before.before.transmit-parameters.ensures c.before.before.before.before.before.before.before.before.before.before.before.enum_told.given.1 _ _ c.before.before.before.before.before.before.before.before.before.encode.ensures _ c.before.before.copy-front.ensures)
+    omega (arith, block_fits a.e a.depth a.fill a.randomised a.frame.now a.marked.now c.before.before.before.before.before.before.before.before.before.before.before.before.before.transmit-parameters.result c.before.before.before.before.before.before.before.before.before.before.before.before.before.transmit-parameters.ensures c.before.before.before.before.before.before.before.before.before.before.before.enum_told.given.1 _ _ c.before.before.before.before.before.before.before.before.before.encode.ensures _ c.before.before.copy-front.ensures)
 
 part-randomise-if-start : tie.Need-slice-bounds-randomise-if-start
 part-randomise-if-start c =
     let a = c.before.before.before.before.before.before.before.before.before.before.before.before.before.before.before.before.args in
-    let fits : 4 ≤ length c.before.before.copy-front.new.1.0 = block-fits a.e a.depth a.fill a.randomised a.frame.now a.marked.now c.before.before.before.before.before.before.before.before.before.before.before.before.before.transmit-parameters.result c.before.before.before.before.before.before.before.before.before.before.before.before.before.transmit-parameters.ensures c.before.before.before.before.before.before.before.before.before.before.before.enum_told.given.1 _ _ c.before.before.before.before.before.before.before.before.before.encode.ensures _ c.before.before.copy-front.ensures in
+    let fits : 4 ≤ length c.before.before.copy-front.new.1.0 = block_fits a.e a.depth a.fill a.randomised a.frame.now a.marked.now c.before.before.before.before.before.before.before.before.before.before.before.before.before.transmit-parameters.result c.before.before.before.before.before.before.before.before.before.before.before.before.before.transmit-parameters.ensures c.before.before.before.before.before.before.before.before.before.before.before.enum_told.given.1 _ _ c.before.before.before.before.before.before.before.before.before.encode.ensures _ c.before.before.copy-front.ensures in
     search rules
 
 part-randomise-if-end : tie.Need-slice-bounds-randomise-if-end
@@ -73,7 +73,7 @@ part-randomise-if-end c = search rules
 randomise-if-requires : tie.Need-randomise-if-requires
 randomise-if-requires c κs =
     let a = c.before.before.before.before.before.before.before.before.before.before.before.before.before.before.before.before.before.args in
-    lent-within a.e a.depth a.fill a.randomised a.frame.now a.marked.now c.before.before.before.before.before.before.before.before.before.before.before.before.before.before.transmit-parameters.result c.before.before.before.before.before.before.before.before.before.before.before.before.before.before.transmit-parameters.ensures c.before.before.before.before.before.before.before.before.before.before.before.before.enum_told.given.1 _ _ c.before.before.before.before.before.before.before.before.before.before.encode.ensures _ c.before.before.before.copy-front.ensures
+    lent_within a.e a.depth a.fill a.randomised a.frame.now a.marked.now c.before.before.before.before.before.before.before.before.before.before.before.before.before.before.transmit-parameters.result c.before.before.before.before.before.before.before.before.before.before.before.before.before.before.transmit-parameters.ensures c.before.before.before.before.before.before.before.before.before.before.before.before.enum_told.given.1 _ _ c.before.before.before.before.before.before.before.before.before.before.encode.ensures _ c.before.before.before.copy-front.ensures
 
 same-length-2 : tie.Need-same-length-2
 same-length-2 c = search rules
@@ -81,7 +81,7 @@ same-length-2 c = search rules
 returns-3 : tie.Need-returns-3
 returns-3 c =
     let a = c.before.before.before.before.before.before.before.before.before.before.before.before.before.before.before.before.before.before.before.before.args in
-    transmit-accepts a.e a.depth a.fill a.randomised a.frame.now a.marked.now c.before.before.before.before.before.before.before.before.before.before.before.before.before.before.before.before.before.transmit-parameters.result c.before.before.before.before.before.before.before.before.before.before.before.before.before.before.before.before.before.transmit-parameters.ensures c.before.before.before.before.before.before.before.before.before.before.before.before.before.before.before.enum_told.given.1 _ _ c.before.before.before.before.before.before.before.before.before.before.before.before.before.encode.ensures _ c.before.before.before.before.before.before.copy-front.ensures c.before.before.before.before.before.before.before.before.before.enum-told2.given.1 _ c.before.before.randomise-if.ensures
+    transmit_accepts a.e a.depth a.fill a.randomised a.frame.now a.marked.now c.before.before.before.before.before.before.before.before.before.before.before.before.before.before.before.before.before.transmit-parameters.result c.before.before.before.before.before.before.before.before.before.before.before.before.before.before.before.before.before.transmit-parameters.ensures c.before.before.before.before.before.before.before.before.before.before.before.before.before.before.before.enum_told.given.1 _ _ c.before.before.before.before.before.before.before.before.before.before.before.before.before.encode.ensures _ c.before.before.before.before.before.before.copy-front.ensures c.before.before.before.before.before.before.before.before.before.enum-told2.given.1 _ c.before.before.randomise-if.ensures
 
 pub transmit-spec : {M : Type 1} → statement M
 transmit-spec =

@@ -1,11 +1,11 @@
--- `moved_up` writes each octet but the first one place further up over a row of zeros.
+-- `moved_up_lem` writes each octet but the first one place further up over a row of zeros.
 use mathlib.Core.Path.{refl}
 use Prim.Native.Nat.{ℕ, ◌≤◌, ◌-◌, ◌+◌}
 use native.Mathlib.Omega.{arith}
 use lib.ListN.{get_or, replicate}
-use Rattle.check_rows.proofs.Filling.{Filled, filled-start, filled-turn}
+use Rattle.check_rows.proofs.Filling.{Filled, filled-start, filled_turn}
 use borrow.Author.Rules.{rules}
-use Rattle.check_rows.proofs.Steps.{moved-end}
+use Rattle.check_rows.proofs.Steps.{moved_end}
 use Rattle.check_rows.proofs.step.moved_up.Statement.{statement}
 use Rattle.check_rows.proofs.step.moved_up.Tie as tie
 
@@ -34,10 +34,10 @@ loop-less : tie.Need-loop-smaller invariant-loop decreases-loop
 loop-less c = search rules
 
 loop-again : tie.Need-loop-preserved invariant-loop decreases-loop
-loop-again c = (omega arith, filled-turn _ _ _ c.before.loop.j _ _ _ (omega arith) (omega arith) refl refl c.before.loop.invariant.1)
+loop-again c = (omega arith, filled_turn _ _ _ c.before.loop.j _ _ _ (omega arith) (omega arith) refl refl c.before.loop.invariant.1)
 
 returns : tie.Need-returns invariant-loop decreases-loop
-returns c = moved-end c.before.before.args.t1 c.before.loop.moved c.before.loop.j (omega arith) (search rules) c.before.loop.invariant.1
+returns c = moved_end c.before.before.args.t1 c.before.loop.moved c.before.loop.j (omega arith) (search rules) c.before.loop.invariant.1
 
 pub moved-up-spec : {M : Type 1} → statement M
 moved-up-spec =

@@ -2,8 +2,8 @@
 use mathlib.Core.Path.{sym}
 use Prim.Native.Nat.{◌≤◌, ◌-◌}
 use native.Mathlib.Omega.{arith}
-use Rattle.field.proofs.Sum.{⊕-is}
-use Rattle.check_rows.proofs.Steps.{Added, bits-start, bits-turn, bits-end}
+use Rattle.field.proofs.Sum.{⊕_is}
+use Rattle.check_rows.proofs.Steps.{Added, bits-start, bits_turn, bits-end}
 use borrow.Author.Rules.{rules}
 use Rattle.check_rows.proofs.step.stepped_by_bits.Statement.{statement}
 use Rattle.check_rows.proofs.step.stepped_by_bits.Tie as tie
@@ -33,10 +33,10 @@ loop-less : tie.Need-loop-smaller invariant-loop decreases-loop
 loop-less c = search rules
 
 loop-again : tie.Need-loop-preserved invariant-loop decreases-loop
-loop-again c = (omega arith, bits-turn _ _ _ _ _ _ (omega arith) c.before.before.loop.invariant.1 c.with-bit.ensures)
+loop-again c = (omega arith, bits_turn _ _ _ _ _ _ (omega arith) c.before.before.loop.invariant.1 c.with-bit.ensures)
 
 returns : tie.Need-returns invariant-loop decreases-loop
-returns c = bits-end _ _ _ c.before.loop.bit _ _ _ (omega arith) (sym (⊕-is _ _)) c.before.before.moved_up.ensures c.before.loop.invariant.1
+returns c = bits-end _ _ _ c.before.loop.bit _ _ _ (omega arith) (sym (⊕_is _ _)) c.before.before.moved_up.ensures c.before.loop.invariant.1
 
 pub stepped-by-bits-spec : {M : Type 1} → statement M
 stepped-by-bits-spec =

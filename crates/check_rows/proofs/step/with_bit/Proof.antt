@@ -4,9 +4,9 @@ use Prim.Native.Nat.{ℕ, ◌≤◌, ◌-◌, ◌+◌, ◌*◌, ◌/◌, ◌%◌
 use native.Mathlib.Nat.{mod-lt}
 use native.Mathlib.Omega.{arith}
 use lib.ListN.{get_or}
-use Rattle.field.specs.Field.{◌⊕◌, whereSet}
-use Rattle.check_rows.proofs.Filling.{Filled, filled-start, filled-turn}
-use Rattle.check_rows.proofs.Steps.{added-masked}
+use Rattle.field.specs.Field.{◌⊕◌, where_set}
+use Rattle.check_rows.proofs.Filling.{Filled, filled-start, filled_turn}
+use Rattle.check_rows.proofs.Steps.{added_masked}
 use borrow.Author.Rules.{rules}
 use Rattle.check_rows.proofs.step.with_bit.Statement.{statement}
 use Rattle.check_rows.proofs.step.with_bit.Tie as tie
@@ -14,7 +14,7 @@ use Rattle.check_rows.proofs.step.with_bit.Tie as tie
 abbrev invariant-loop : tie.invariant-loop
 invariant-loop rows feedback bit mask first sum₀ j₀ sum j =
     (j ≤ 32)
-    × Filled (λ (n : ℕ). get_or sum₀ n 0 ⊕ whereSet (feedback / 2 ^ (7 - bit) % 2) (get_or rows (32 * bit + n) 0 % 256)) sum₀ 0 j sum
+    × Filled (λ (n : ℕ). get_or sum₀ n 0 ⊕ where_set (feedback / 2 ^ (7 - bit) % 2) (get_or rows (32 * bit + n) 0 % 256)) sum₀ 0 j sum
 
 abbrev decreases-loop : tie.decreases-loop
 decreases-loop rows feedback bit mask first sum₀ j₀ sum j = 32 - j
@@ -60,8 +60,8 @@ loop-again c =
     let args : _ = c.before.before.before.before.args in
     let loop : _ = c.before.before.loop in (
       omega arith,
-      filled-turn _ _ _ loop.j _ _ _ (omega arith) (search rules)
-          (added-masked (args.feedback / 2 ^ (7 - args.bit)) _ _ _ _ c.before.before.before.mask-of.ensures (loop.invariant.1.rest loop.j (omega arith))) refl loop.invariant.1,
+      filled_turn _ _ _ loop.j _ _ _ (omega arith) (search rules)
+          (added_masked (args.feedback / 2 ^ (7 - args.bit)) _ _ _ _ c.before.before.before.mask-of.ensures (loop.invariant.1.rest loop.j (omega arith))) refl loop.invariant.1,
     )
 
 returns : tie.Need-returns invariant-loop decreases-loop

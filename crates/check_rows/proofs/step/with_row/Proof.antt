@@ -5,8 +5,8 @@ use native.Mathlib.Omega.{arith}
 use lib.ListN.{get_or}
 use Rattle.field.specs.Field.{◌⊕◌}
 use borrow.Author.Rules.{rules}
-use Rattle.check_rows.proofs.Filling.{Filled, filled-start, filled-turn}
-use Rattle.check_rows.proofs.Steps.{added-octet}
+use Rattle.check_rows.proofs.Filling.{Filled, filled-start, filled_turn}
+use Rattle.check_rows.proofs.Steps.{added_octet}
 use Rattle.check_rows.proofs.step.with_row.Statement.{statement}
 use Rattle.check_rows.proofs.step.with_row.Tie as tie
 
@@ -43,8 +43,8 @@ loop-less c = search rules
 loop-again : tie.Need-loop-preserved invariant-loop decreases-loop
 loop-again c = (
   omega arith,
-  filled-turn _ _ _ c.before.before.loop.j _ _ _ (omega arith) (search rules)
-      (added-octet _ _ _ (c.before.before.loop.invariant.1.rest c.before.before.loop.j (omega arith))) refl c.before.before.loop.invariant.1,
+  filled_turn _ _ _ c.before.before.loop.j _ _ _ (omega arith) (search rules)
+      (added_octet _ _ _ (c.before.before.loop.invariant.1.rest c.before.before.loop.j (omega arith))) refl c.before.before.loop.invariant.1,
 )
 
 returns : tie.Need-returns invariant-loop decreases-loop

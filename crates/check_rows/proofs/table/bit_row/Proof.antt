@@ -4,7 +4,7 @@ use Prim.Native.Nat.{ℕ, ◌≤◌, ◌-◌, ◌+◌, ◌*◌}
 use native.Mathlib.Omega.{arith}
 use lib.ListN.{get_or, replicate}
 use borrow.Author.Rules.{rules}
-use Rattle.check_rows.proofs.Filling.{Filled, filled-start, filled-turn}
+use Rattle.check_rows.proofs.Filling.{Filled, filled-start, filled_turn}
 use Rattle.check_rows.proofs.table.bit_row.Statement.{statement}
 use Rattle.check_rows.proofs.table.bit_row.Tie as tie
 
@@ -38,7 +38,7 @@ loop-less c = search rules
 loop-again : tie.Need-loop-preserved invariant-loop decreases-loop
 loop-again c = (
   omega arith,
-  filled-turn _ _ _ c.before.before.loop.j _ _ _ (omega arith) (omega arith) refl refl c.before.before.loop.invariant.1,
+  filled_turn _ _ _ c.before.before.loop.j _ _ _ (omega arith) (omega arith) refl refl c.before.before.loop.invariant.1,
 )
 
 returns : tie.Need-returns invariant-loop decreases-loop

@@ -4,7 +4,7 @@ use Prim.Native.Nat.{◌≤◌, ◌-◌}
 use native.Mathlib.Omega.{arith}
 use lib.ListN.{length}
 use borrow.Author.Rules.{rules}
-use Rattle.check_rows.proofs.Tables.{Summing, summing-starts, summing-turn, summing-ends}
+use Rattle.check_rows.proofs.Tables.{Summing, summing_starts, summing_turn, summing_ends}
 use Rattle.check_rows.proofs.table.put_sum.Statement.{statement}
 use Rattle.check_rows.proofs.table.put_sum.Tie as tie
 
@@ -21,7 +21,7 @@ mul-target : tie.Need-overflow-mul-target invariant-loop decreases-loop
 mul-target c = search rules
 
 loop-holds : tie.Need-loop-init invariant-loop decreases-loop
-loop-holds c = (omega arith, refl, summing-starts _ _ _ _)
+loop-holds c = (omega arith, refl, summing_starts _ _ _ _)
 
 add-table : tie.Need-overflow-add-table invariant-loop decreases-loop
 add-table c = search rules
@@ -46,14 +46,14 @@ loop-less c = search rules
 
 loop-again : tie.Need-loop-preserved invariant-loop decreases-loop
 loop-again c =
-    let S : Summing _ _ _ _ _ _ = summing-turn _ _ _ _ _ _ (omega arith) (omega arith) (omega arith) (omega arith) c.before.before.loop.invariant.2 in
+    let S : Summing _ _ _ _ _ _ = summing_turn _ _ _ _ _ _ (omega arith) (omega arith) (omega arith) (omega arith) c.before.before.loop.invariant.2 in
     (omega arith, S.size, S)
 
 same_length : tie.Need-same-length invariant-loop decreases-loop
 same_length c = search rules
 
 returns : tie.Need-returns invariant-loop decreases-loop
-returns c = summing-ends _ _ c.before.loop.j _ _ _ (omega arith) c.before.loop.invariant.2
+returns c = summing_ends _ _ c.before.loop.j _ _ _ (omega arith) c.before.loop.invariant.2
 
 pub put-sum-spec : {M : Type 1} → statement M
 put-sum-spec =

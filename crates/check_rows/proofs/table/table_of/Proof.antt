@@ -6,7 +6,7 @@ use lib.ListN.{length, get_or}
 use mir.Syntax.{w8}
 use mir.Val.{Fits}
 use borrow.Author.Rules.{rules}
-use Rattle.check_rows.proofs.Tables.{power-bounds, power-next, Growing, growing-starts, growing-turn, growing-ends}
+use Rattle.check_rows.proofs.Tables.{power_bounds, power_next, Growing, growing_starts, growing_turn, growing_ends}
 use Rattle.check_rows.proofs.table.table_of.Statement.{statement}
 use Rattle.check_rows.proofs.table.table_of.Tie as tie
 
@@ -17,7 +17,7 @@ abbrev decreases-loop : tie.decreases-loop
 decreases-loop rows table₀ size₀ bit₀ table size bit = 8 - bit
 
 loop-holds : tie.Need-loop-init invariant-loop decreases-loop
-loop-holds c = (omega arith, refl, refl, growing-starts _)
+loop-holds c = (omega arith, refl, refl, growing_starts _)
 
 sub-bit-row : tie.Need-overflow-sub-bit-row invariant-loop decreases-loop
 sub-bit-row c = search rules
@@ -30,11 +30,11 @@ slice-aggregate-double c = sym c.before.before.before.loop.invariant.2
 
 double-requires : tie.Need-double-requires invariant-loop decreases-loop
 double-requires c κs =
-    let small : _ × _ = power-bounds c.before.before.before.loop.bit (omega arith) in
+    let small : _ × _ = power_bounds c.before.before.before.loop.bit (omega arith) in
     (omega (arith, small.0), omega (arith, small.1), c.before.before.before.loop.invariant.2)
 
 add-size : tie.Need-overflow-add-size invariant-loop decreases-loop
-add-size c = omega (arith, (power-bounds c.before.before.before.before.before.loop.bit (omega arith)).1)
+add-size c = omega (arith, (power_bounds c.before.before.before.before.before.loop.bit (omega arith)).1)
 
 add-bit : tie.Need-overflow-add-bit invariant-loop decreases-loop
 add-bit c = search rules
@@ -47,13 +47,13 @@ loop-again c =
     let loop : _ = c.before.before.before.before.before.loop in
     let octet : (j : ℕ) → Fits w8 (get_or c.before.before.before.bit-row.result j 0) = λ j. search rules in (
       omega arith,
-      power-next _ _ loop.invariant.1,
+      power_next _ _ loop.invariant.1,
       c.before.double.ensures.long ∙ loop.invariant.2,
-      growing-turn _ _ _ _ _ _ (omega arith) loop.invariant.1 loop.invariant.3 c.before.before.before.bit-row.ensures (λ j h. (octet j).fits) c.before.double.ensures,
+      growing_turn _ _ _ _ _ _ (omega arith) loop.invariant.1 loop.invariant.3 c.before.before.before.bit-row.ensures (λ j h. (octet j).fits) c.before.double.ensures,
     )
 
 returns : tie.Need-returns invariant-loop decreases-loop
-returns c = growing-ends _ _ c.before.loop.bit _ (omega arith) c.before.loop.invariant.1 c.before.loop.invariant.2 c.before.loop.invariant.3
+returns c = growing_ends _ _ c.before.loop.bit _ (omega arith) c.before.loop.invariant.1 c.before.loop.invariant.2 c.before.loop.invariant.3
 
 pub table-of-spec : {M : Type 1} → statement M
 table-of-spec =

@@ -1,11 +1,11 @@
 -- `wide_by_g1` meets its contract, by the law of sums at once.
 use Rattle.convolution.specs.Coder.{g1}
-use Rattle.convolution.proofs.AtOnce.{by-g1, sums-at-once}
+use Rattle.convolution.proofs.AtOnce.{by-g1, sums_at_once}
 use Rattle.convolution.proofs.groups.wide_by_g1.Statement.{statement}
 use Rattle.convolution.proofs.groups.wide_by_g1.Tie as tie
 
 returns : tie.Need-returns
-returns c = λ n. sums-at-once 2 4 8 64 g1 by-g1 n c.args.window
+returns c = λ n. sums_at_once 2 4 8 64 g1 by-g1 n c.args.window
 
 pub wide-by-g1-spec : {M : Type 1} → statement M
 wide-by-g1-spec = tie.close (tie.spec returns)

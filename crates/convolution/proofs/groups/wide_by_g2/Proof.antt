@@ -1,11 +1,11 @@
 -- `wide_by_g2` meets its contract, by the law of sums at once.
 use Rattle.convolution.specs.Coder.{g2}
-use Rattle.convolution.proofs.AtOnce.{by-g2, sums-at-once}
+use Rattle.convolution.proofs.AtOnce.{by-g2, sums_at_once}
 use Rattle.convolution.proofs.groups.wide_by_g2.Statement.{statement}
 use Rattle.convolution.proofs.groups.wide_by_g2.Tie as tie
 
 returns : tie.Need-returns
-returns c = λ n. sums-at-once 4 8 32 64 g2 by-g2 n c.args.window
+returns c = λ n. sums_at_once 4 8 32 64 g2 by-g2 n c.args.window
 
 pub wide-by-g2-spec : {M : Type 1} → statement M
 wide-by-g2-spec = tie.close (tie.spec returns)

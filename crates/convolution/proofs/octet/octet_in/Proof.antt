@@ -1,7 +1,7 @@
 -- `octet_in` meets its contract, by the law of an octet that went in.
 use borrow.Author.Rules.{rules}
 use native.Mathlib.Omega.{arith}
-use Rattle.convolution.proofs.Filling.{octet-filled}
+use Rattle.convolution.proofs.Filling.{octet_filled}
 use Rattle.convolution.proofs.octet.octet_in.Statement.{statement}
 use Rattle.convolution.proofs.octet.octet_in.Tie as tie
 
@@ -26,7 +26,7 @@ picked-requires c κs = search rules
 returns : tie.Need-returns
 returns c =
     let start = c.before.before.before.before.before in
-    octet-filled start.args.rate start.args.octet start.args.state (omega arith) start.requires.1.register
+    octet_filled start.args.rate start.args.octet start.args.state (omega arith) start.requires.1.register
     c.before.before.before.sums-by-g1.result c.before.before.sums-by-g2.result c.before.inverted-at-half.result c.picked.result
     c.before.before.before.sums-by-g1.ensures.0 c.before.before.sums-by-g2.ensures.0 c.before.inverted-at-half.ensures.0 c.picked.ensures
 

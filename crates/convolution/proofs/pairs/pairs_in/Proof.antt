@@ -4,7 +4,7 @@ use mathlib.Core.Path.{◌≡◌, refl, ◌∙◌, subst}
 use Prim.Native.Nat.{ℕ, ◌-◌, ◌≤◌, ◌<◌}
 use native.Mathlib.Omega.{arith}
 use lib.ListN.{length}
-use Rattle.convolution.proofs.Pairing.{Paired, paired-first, paired-on, nothing-in, all-paired}
+use Rattle.convolution.proofs.Pairing.{Paired, paired_first, paired_on, nothing_in, all_paired}
 use Rattle.convolution.proofs.pairs.pairs_in.Statement.{statement}
 use Rattle.convolution.proofs.pairs.pairs_in.Tie as tie
 
@@ -21,7 +21,7 @@ decreases-loop period c1 octets symbols₀ n i₀ symbols i = n - i
 returns : tie.Need-returns invariant-loop decreases-loop
 returns c =
     let start = c.before.before.before in
-    nothing-in start.args.start start.args.octets.now start.args.symbols.now start.requires.1 start.requires.2 c.if1.true
+    nothing_in start.args.start start.args.octets.now start.args.symbols.now start.requires.1 start.requires.2 c.if1.true
 
 shared-slice-read-put-pair : tie.Need-shared-slice-read-put-pair invariant-loop decreases-loop
 shared-slice-read-put-pair c = search rules
@@ -65,7 +65,7 @@ loop-again c =
       omega arith,
       omega arith,
       c.before.before.put-pair2.ensures.long ∙ at.invariant.2,
-      λ r six first. paired-on r octets six at.i at.symbols _ at.invariant.0 inside (omega (arith, c.before.before.before.before.before.before.before.before.before.before.before.before.before.before.before.shared-slice-known.given (at.i - 1))) c.before.before.put-pair2.ensures (at.invariant.3 r six first),
+      λ r six first. paired_on r octets six at.i at.symbols _ at.invariant.0 inside (omega (arith, c.before.before.before.before.before.before.before.before.before.before.before.before.before.before.before.shared-slice-known.given (at.i - 1))) c.before.before.put-pair2.ensures (at.invariant.3 r six first),
     )
 
 sub-t26 : tie.Need-overflow-sub-t26 invariant-loop decreases-loop
@@ -88,8 +88,8 @@ returns-2 c =
     let flow = start.args.start in
     let some : 0 < length octets = omega (arith, at.invariant.0, at.invariant.1) in
     let all : at.i ≡ length octets = omega (arith, at.invariant.1) in
-    let first = paired-first flow.register octets start.requires.1.register start.args.symbols.now _ some c.before.before.before.before.before.put-pair.ensures in
-    all-paired flow octets start.requires.1 start.requires.2 at.symbols some (omega (arith, c.before.before.before.before.before.before.before.before.before.before.shared-slice-known.given (length octets - 1)))
+    let first = paired_first flow.register octets start.requires.1.register start.args.symbols.now _ some c.before.before.before.before.before.put-pair.ensures in
+    all_paired flow octets start.requires.1 start.requires.2 at.symbols some (omega (arith, c.before.before.before.before.before.before.before.before.before.before.shared-slice-known.given (length octets - 1)))
     (subst (λ (m : ℕ). Paired flow.register octets m at.symbols) all (at.invariant.3 flow.register start.requires.1.register first))
 
 pub pairs-in-spec : {M : Type 1} → statement M

@@ -5,7 +5,7 @@ use Prim.Native.Nat.{ℕ, ◌+◌, ◌*◌, ◌%◌, ◌^◌}
 use native.Mathlib.Omega.{arith}
 use lib.Pow.{pow_pos}
 use Rattle.convolution.specs.Coder.{low_bits}
-use Rattle.convolution.proofs.Puncturing.{one_up, lowest-masked, fits_below, joined-below}
+use Rattle.convolution.proofs.Puncturing.{one_up, lowest_masked, fits_below, joined-below}
 use Rattle.convolution.proofs.picks.joined.Statement.{statement}
 use Rattle.convolution.proofs.picks.joined.Tie as tie
 
@@ -25,11 +25,11 @@ sub-result : tie.Need-overflow-sub-result
 sub-result c = omega (arith, one_up c.args.n c.requires, pow_pos c.args.n)
 
 add-result : tie.Need-overflow-add-result
-add-result c = omega (arith, lowest-masked c.args.bits c.args.n c.requires, fits_below 32 c.args.held c.args.bits c.args.n (omega arith))
+add-result c = omega (arith, lowest_masked c.args.bits c.args.n c.requires, fits_below 32 c.args.held c.args.bits c.args.n (omega arith))
 
 returns : tie.Need-returns
 returns c = λ h room.
-    ap (λ (v : ℕ). low_bits (h + c.args.n) (c.args.held * 2 ^ c.args.n % 2 ^ 32 + v)) (lowest-masked c.args.bits c.args.n c.requires)
+    ap (λ (v : ℕ). low_bits (h + c.args.n) (c.args.held * 2 ^ c.args.n % 2 ^ 32 + v)) (lowest_masked c.args.bits c.args.n c.requires)
     ∙ joined-below 32 c.args.held c.args.bits c.args.n (omega arith) h room
 
 pub joined-spec : {M : Type 1} → statement M

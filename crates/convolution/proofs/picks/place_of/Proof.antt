@@ -1,6 +1,6 @@
 -- `place_of` meets its contract.
 use borrow.Author.Rules.{rules}
-use Rattle.convolution.proofs.Puncturing.{before-some}
+use Rattle.convolution.proofs.Puncturing.{before_some}
 use Rattle.convolution.proofs.picks.place_of.Statement.{statement}
 use Rattle.convolution.proofs.picks.place_of.Tie as tie
 
@@ -11,7 +11,7 @@ returns : tie.Need-returns
 returns c = search rules
 
 returns-2 : tie.Need-returns-2
-returns-2 c = before-some c.before.args.period c.before.args.ahead c.if1.false
+returns-2 c = before_some c.before.args.period c.before.args.ahead c.if1.false
 
 pub place-of-spec : {M : Type 1} → statement M
 place-of-spec = tie.close (tie.spec sub-result returns returns-2)

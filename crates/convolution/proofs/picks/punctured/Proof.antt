@@ -4,10 +4,10 @@ use mathlib.Core.List.{List, ◌++◌}
 use mathlib.Core.Path.{◌≡◌, sym, ap, ◌∙◌, subst}
 use Prim.Native.Nat.{ℕ, ◌≤◌, ◌<◌, ◌+◌, ◌*◌}
 use native.Mathlib.Omega.{arith}
-use Rattle.convolution.specs.Coder.{low_bits, placeAfter}
+use Rattle.convolution.specs.Coder.{low_bits, place_after}
 use Rattle.refusals.specs.Sizes.{period}
-use Rattle.convolution.specs.Working.{pickedFrom, ahead}
-use Rattle.convolution.proofs.Puncturing.{withSecond, aheadAfter, begun-turn, begun-ahead, some-period, starts, starts-ahead, ends-place, ends-small, second_none, ahead_small}
+use Rattle.convolution.specs.Working.{picked_from, ahead}
+use Rattle.convolution.proofs.Puncturing.{with_second, ahead_after, begun_turn, begun_ahead, some_period, starts, starts_ahead, ends_place, ends_small, second_none, ahead_small}
 use Rattle.convolution.proofs.picks.punctured.Statement.{statement}
 use Rattle.convolution.proofs.picks.punctured.Tie as tie
 
@@ -16,8 +16,8 @@ invariant-loop rate period c1 state first second place both s₀ s =
     (s.left ≤ 8)
     × (s.ahead < period)
     × (s.holds + 2 * s.left ≤ 23)
-    × (low_bits s.holds s.held ++ withSecond period s.ahead (low_bits s.left both) (low_bits s.left second) ≡ low_bits state.holds state.held ++ pickedFrom rate state.place (low_bits 8 first) (low_bits 8 second))
-    × (aheadAfter period s.ahead s.left ≡ ahead period (placeAfter rate state.place (low_bits 8 first)))
+    × (low_bits s.holds s.held ++ with_second period s.ahead (low_bits s.left both) (low_bits s.left second) ≡ low_bits state.holds state.held ++ picked_from rate state.place (low_bits 8 first) (low_bits 8 second))
+    × (ahead_after period s.ahead s.left ≡ ahead period (place_after rate state.place (low_bits 8 first)))
 
 abbrev decreases-loop : tie.decreases-loop
 decreases-loop rate period c1 state first second place both s₀ s = s.left
@@ -40,14 +40,14 @@ loop-holds c =
       subst (λ (n : ℕ). n < start.args.period) (sym c.ahead_of_lem.ensures) (ahead_small start.args.period s.place start.requires.1),
       omega (arith, start.requires.2),
       ap (λ (l : List ℕ). low_bits s.holds s.held ++ l) (starts start.args.rate start.args.period start.args.c1.now start.requires.0 s.place start.args.first start.requires.1 start.args.second c.before.merged.result a c.before.merged.ensures c.ahead_of_lem.ensures),
-      starts-ahead start.args.rate start.args.period start.args.c1.now start.requires.0 s.place start.args.first start.requires.1 a c.ahead_of_lem.ensures,
+      starts_ahead start.args.rate start.args.period start.args.c1.now start.requires.0 s.place start.args.first start.requires.1 a c.ahead_of_lem.ensures,
     )
 
 period-begun-requires : tie.Need-period-begun-requires invariant-loop decreases-loop
 period-begun-requires c κs =
     let start = c.before.before.before.before.before.before in
     let i = c.before.before.loop.invariant in
-    (some-period start.args.rate start.args.period start.args.c1.now start.requires.0, c.if1.true, i.0, omega (arith, i.2))
+    (some_period start.args.rate start.args.period start.args.c1.now start.requires.0, c.if1.true, i.0, omega (arith, i.2))
 
 loop-less : tie.Need-loop-smaller invariant-loop decreases-loop
 loop-less c = omega (arith, c.period-begun.ensures.left)
@@ -61,10 +61,10 @@ loop-again c =
     let period = start.args.period in
     let both = c.before.before.before.before.before.merged.result in (
       omega (arith, begun.left, i.0),
-      omega (arith, begun.ahead, some-period start.args.rate start.args.period start.args.c1.now start.requires.0),
+      omega (arith, begun.ahead, some_period start.args.rate start.args.period start.args.c1.now start.requires.0),
       omega (arith, begun.left, begun.holds, i.2),
-      begun-turn period s c.period-begun.result both start.args.second begun ∙ i.3,
-      begun-ahead period s c.period-begun.result both start.args.second begun ∙ i.4,
+      begun_turn period s c.period-begun.result both start.args.second begun ∙ i.3,
+      begun_ahead period s c.period-begun.result both start.args.second begun ∙ i.4,
     )
 
 place-of-requires : tie.Need-place-of-requires invariant-loop decreases-loop
@@ -84,14 +84,14 @@ returns c =
     let st = start.args.state in
     let both = c.before.before.before.before.before.before.before.before.merged.result in
     let few : s.left ≤ s.ahead = omega (arith, c.before.before.before.before.if1.false) in
-    let place = c.before.before.place_of.ensures ∙ ends-place start.args.rate start.args.period start.args.c1.now start.requires.0 st.place start.args.first start.requires.1 s.ahead s.left few at.invariant.4 in
+    let place = c.before.before.place_of.ensures ∙ ends_place start.args.rate start.args.period start.args.c1.now start.requires.0 st.place start.args.first start.requires.1 s.ahead s.left few at.invariant.4 in
     record {
       symbols =
           c.before.joined.ensures s.holds (omega (arith, at.invariant.2))
           ∙ ap (λ (l : List ℕ). low_bits s.holds s.held ++ l) (sym (second_none start.args.period s.ahead s.left both start.args.second few))
           ∙ at.invariant.3;
       place = place;
-      small = subst (λ (n : ℕ). n < period start.args.rate) (sym place) (ends-small start.args.rate start.args.period start.args.c1.now start.requires.0 st.place start.args.first start.requires.1);
+      small = subst (λ (n : ℕ). n < period start.args.rate) (sym place) (ends_small start.args.rate start.args.period start.args.c1.now start.requires.0 st.place start.args.first start.requires.1);
       holds = omega (arith, at.invariant.2);
     }
 

@@ -2,7 +2,7 @@
 use Prim.Native.Nat.{ℕ}
 use borrow.Fn.Function.{res_v}
 use Rattle.convolution.specs.Working.{spread_of}
-use Rattle.field.proofs.Below.{equal-below}
+use Rattle.field.proofs.Below.{equal_below}
 use Rattle.convolution.proofs.picks.spread.Statement.{statement}
 use Rattle.convolution.proofs.picks.spread.Reads as reads
 use Rattle.convolution.proofs.picks.spread.Lts as lts
@@ -13,7 +13,7 @@ abbrev returned : ℕ → ℕ
 returned octet = res_v lts.r tt (lts.m18 reads.Pre reads.Post record { octet = octet }).0
 
 returns : tie.Need-returns
-returns c = equal-below returned (spread_of 8) 256 tt c.args.octet c.requires
+returns c = equal_below returned (spread_of 8) 256 tt c.args.octet c.requires
 
 pub spread-spec : {M : Type 1} → statement M
 spread-spec = tie.close (tie.spec returns)

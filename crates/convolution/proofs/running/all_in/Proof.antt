@@ -6,8 +6,8 @@ use native.Mathlib.Omega.{arith}
 use lib.ListN.{length}
 use Rattle.convolution.specs.Coder.{bits_of}
 use Rattle.convolution.specs.Working.{stream, Rows, Sound, Run}
-use Rattle.convolution.proofs.Pairing.{pairs-room}
-use Rattle.convolution.proofs.Turning.{Going, going-first, going-underway, going_on, going-over}
+use Rattle.convolution.proofs.Pairing.{pairs_room}
+use Rattle.convolution.proofs.Turning.{Going, going_first, going_underway, going_on, going_over}
 use Rattle.convolution.proofs.running.all_in.Statement.{statement}
 use Rattle.convolution.proofs.running.all_in.Tie as tie
 
@@ -35,7 +35,7 @@ pairs-in-requires c κs =
     let none = c.before.if2.true in
     let sound = subst (λ (r : ℕ). Sound r start.args.start) half start.requires.1 in
     let enough = subst (λ (r : ℕ). length (stream r start.args.start (bits_of start.args.octets.now)) / 8 ≤ length start.args.symbols.now) half start.requires.2 in
-    (subst (λ (r : ℕ). Rows r start.args.period start.args.c1.now) half start.requires.0, sound, none, pairs-room start.args.start start.args.octets.now sound none _ enough)
+    (subst (λ (r : ℕ). Rows r start.args.period start.args.c1.now) half start.requires.0, sound, none, pairs_room start.args.start start.args.octets.now sound none _ enough)
 
 same-length-2 : tie.Need-same-length-2 invariant-loop decreases-loop
 same-length-2 c = search rules
@@ -49,13 +49,13 @@ returns-2 c =
 loop-holds : tie.Need-loop-init invariant-loop decreases-loop
 loop-holds c =
     let start = c.before.before.before.before.before in
-    going-first start.args.rate start.args.octets.now start.args.symbols.now start.args.start start.requires.1
+    going_first start.args.rate start.args.octets.now start.args.symbols.now start.args.start start.requires.1
 
 one-in-requires : tie.Need-one-in-requires invariant-loop decreases-loop
 one-in-requires c κs =
     let start = c.before.before.before.before.before.before.before.before.before in
     let at = c.before.before.before.loop in
-    (start.requires.0, going-underway start.args.rate start.args.octets.now start.args.symbols.now start.args.start at.symbols at.at at.invariant start.requires.2, c.before.if3.true)
+    (start.requires.0, going_underway start.args.rate start.args.octets.now start.args.symbols.now start.args.start at.symbols at.at at.invariant start.requires.2, c.before.if3.true)
 
 loop-less : tie.Need-loop-smaller invariant-loop decreases-loop
 loop-less c = omega (arith, c.before.before.one_in.ensures.further, c.before.before.before.before.if3.true)
@@ -73,7 +73,7 @@ returns-3 : tie.Need-returns-3 invariant-loop decreases-loop
 returns-3 c =
     let start = c.before.before.before.before.before.before.before.before.before in
     let at = c.before.before.before.loop in
-    going-over start.args.rate start.args.octets.now start.args.symbols.now start.args.start at.symbols at.at at.invariant (omega (arith, c.before.if3.false))
+    going_over start.args.rate start.args.octets.now start.args.symbols.now start.args.start at.symbols at.at at.invariant (omega (arith, c.before.if3.false))
 
 pub all-in-spec : {M : Type 1} → statement M
 all-in-spec =

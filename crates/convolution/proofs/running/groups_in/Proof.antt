@@ -2,7 +2,7 @@
 use Prim.Native.Nat.{◌-◌}
 use native.Mathlib.Omega.{arith}
 use lib.ListN.{length}
-use Rattle.convolution.proofs.Turning.{Going, going-first, going-underway, going_on, going-over}
+use Rattle.convolution.proofs.Turning.{Going, going_first, going_underway, going_on, going_over}
 use Rattle.convolution.proofs.running.groups_in.Statement.{statement}
 use Rattle.convolution.proofs.running.groups_in.Tie as tie
 
@@ -18,13 +18,13 @@ group-of-requires c κs = (c.before.before.requires.0.legal, c.before.before.req
 loop-holds : tie.Need-loop-init invariant-loop decreases-loop
 loop-holds c =
     let start = c.before.before.before in
-    going-first start.args.rate start.args.octets.now start.args.symbols.now start.args.start start.requires.1
+    going_first start.args.rate start.args.octets.now start.args.symbols.now start.args.start start.requires.1
 
 turn-requires : tie.Need-turn-requires invariant-loop decreases-loop
 turn-requires c κs =
     let start = c.before.before.before.before.before.before.before in
     let at = c.before.before.before.loop in
-    let under = going-underway start.args.rate start.args.octets.now start.args.symbols.now start.args.start at.symbols at.at at.invariant start.requires.2 in
+    let under = going_underway start.args.rate start.args.octets.now start.args.symbols.now start.args.start at.symbols at.at at.invariant start.requires.2 in
     (c.before.before.before.before.before.before.before.requires.0, c.before.before.before.before.Group-of.ensures, under, c.before.if1.true)
 
 loop-less : tie.Need-loop-smaller invariant-loop decreases-loop
@@ -43,7 +43,7 @@ returns : tie.Need-returns invariant-loop decreases-loop
 returns c =
     let start = c.before.before.before.before.before.before.before in
     let at = c.before.before.before.loop in
-    going-over start.args.rate start.args.octets.now start.args.symbols.now start.args.start at.symbols at.at at.invariant (omega (arith, c.before.if1.false))
+    going_over start.args.rate start.args.octets.now start.args.symbols.now start.args.start at.symbols at.at at.invariant (omega (arith, c.before.if1.false))
 
 pub groups-in-spec : {M : Type 1} → statement M
 groups-in-spec =

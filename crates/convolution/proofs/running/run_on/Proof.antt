@@ -3,9 +3,9 @@ use borrow.Author.Rules.{rules}
 use mathlib.Core.Path.{◌≡◌}
 use native.Mathlib.Omega.{arith}
 use lib.ListN.{length}
-use Rattle.convolution.proofs.Accepting.{known, not-long, start-sound, room-for-stream, enough, accepted}
-use Rattle.convolution.proofs.Packing.{octets-known}
-use Rattle.convolution.proofs.Tables.{listed, period-most}
+use Rattle.convolution.proofs.Accepting.{known, not_long, start_sound, room_for_stream, enough, accepted}
+use Rattle.convolution.proofs.Packing.{octets_known}
+use Rattle.convolution.proofs.Tables.{listed, period_most}
 use Rattle.convolution.proofs.running.run_on.Statement.{statement}
 use Rattle.convolution.proofs.running.run_on.Tie as tie
 
@@ -36,8 +36,8 @@ all-in-requires c κs =
     let start = c.before.before.before.before.before.before.before in
     let first = c.before.before.opened in (
       listed start.args.rate c.before.before.before.before.row_of.result (known start.args.rate start.args.state start.args.octets.now start.args.symbols.now start.requires).coder.rate c.before.before.before.before.row_of.ensures.0,
-      start-sound start.args.rate start.args.state start.args.octets.now start.args.symbols.now start.requires first.result first.ensures,
-      room-for-stream start.args.rate start.args.state start.args.octets.now start.args.symbols.now start.requires first.result first.ensures,
+      start_sound start.args.rate start.args.state start.args.octets.now start.args.symbols.now start.requires first.result first.ensures,
+      room_for_stream start.args.rate start.args.state start.args.octets.now start.args.symbols.now start.requires first.result first.ensures,
     )
 
 own-symbols-requires : tie.Need-own-symbols-requires
@@ -46,15 +46,15 @@ own-symbols-requires c κs =
     let first = c.before.before.before.before.before.opened in
     let run = c.before.before.all_in in
     let long : length run.new.1.1.1.1.0 ≡ length start.args.symbols.now = run.auto.1.1.1.1.0 in
-    let few = not-long start.args.rate start.args.state start.args.octets.now start.args.symbols.now start.requires in
-    let most = enough start.args.rate start.args.state start.args.octets.now start.args.symbols.now start.requires first.result first.ensures run.result run.new.1.1.1.1.0 run.ensures long (octets-known run.new.1.1.1.1.0 (λ k h. omega (arith, c.slice-known2.given k))) in
+    let few = not_long start.args.rate start.args.state start.args.octets.now start.args.symbols.now start.requires in
+    let most = enough start.args.rate start.args.state start.args.octets.now start.args.symbols.now start.requires first.result first.ensures run.result run.new.1.1.1.1.0 run.ensures long (octets_known run.new.1.1.1.1.0 (λ k h. omega (arith, c.slice-known2.given k))) in
     (omega arith, run.ensures.sound.holds, omega arith)
 
 handed-requires : tie.Need-handed-requires
 handed-requires c κs =
     let start = c.before.before.before.before.before.before.before.before.before.before.before in
     let sound = c.before.before.before.all_in.ensures.sound in
-    (sound.register, omega (arith, sound.place, period-most start.args.rate (known start.args.rate start.args.state start.args.octets.now start.args.symbols.now start.requires).coder.rate), sound.held, sound.holds)
+    (sound.register, omega (arith, sound.place, period_most start.args.rate (known start.args.rate start.args.state start.args.octets.now start.args.symbols.now start.requires).coder.rate), sound.held, sound.holds)
 
 same_length : tie.Need-same-length
 same_length c = search rules
@@ -65,7 +65,7 @@ returns c =
     let first = c.before.before.before.before.before.before.before.opened in
     let run = c.before.before.before.before.all_in in
     let long : length run.new.1.1.1.1.0 ≡ length start.args.symbols.now = run.auto.1.1.1.1.0 in
-    accepted start.args.rate start.args.state start.args.octets.now start.args.symbols.now start.requires first.result first.ensures run.result run.new.1.1.1.1.0 run.ensures long (octets-known run.new.1.1.1.1.0 (λ k h. omega (arith, c.before.before.slice-known2.given k))) c.handed.result c.before.own-symbols.result c.handed.ensures (omega (arith, c.before.own-symbols.ensures, long))
+    accepted start.args.rate start.args.state start.args.octets.now start.args.symbols.now start.requires first.result first.ensures run.result run.new.1.1.1.1.0 run.ensures long (octets_known run.new.1.1.1.1.0 (λ k h. omega (arith, c.before.before.slice-known2.given k))) c.handed.result c.before.own-symbols.result c.handed.ensures (omega (arith, c.before.own-symbols.ensures, long))
 
 pub run-on-spec : {M : Type 1} → statement M
 run-on-spec =

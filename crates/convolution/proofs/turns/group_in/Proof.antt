@@ -3,7 +3,7 @@ use borrow.Author.Rules.{rules}
 use mathlib.Core.Path.{sym, subst}
 use Prim.Native.Nat.{ℕ, ◌*◌, ◌^◌, ◌<◌}
 use native.Mathlib.Omega.{arith}
-use Rattle.convolution.proofs.Turning.{six-or-eight, group-room, group-turned}
+use Rattle.convolution.proofs.Turning.{six_or_eight, group_room, group_turned}
 use Rattle.convolution.proofs.turns.group_in.Statement.{statement}
 use Rattle.convolution.proofs.turns.group_in.Tie as tie
 
@@ -22,7 +22,7 @@ group-symbols-requires c κs = search rules
 mul-behind-held : tie.Need-overflow-mul-behind-held
 mul-behind-held c =
     let start = c.before.before.before.before.before.before.before.before in
-    omega (arith, six-or-eight start.args.group.filled start.requires.0.filled)
+    omega (arith, six_or_eight start.args.group.filled start.requires.0.filled)
 
 behind-held-requires : tie.Need-behind-held-requires
 behind-held-requires c κs =
@@ -31,7 +31,7 @@ behind-held-requires c κs =
     let first = c.before.before.before.wide-by-g1 in
     let second = c.before.before.wide-by-g2 in
     let sent = c.before.group-symbols in
-    let some = six-or-eight start.args.group.filled start.requires.0.filled in
+    let some = six_or_eight start.args.group.filled start.requires.0.filled in
     let small = start.requires.0.small first.result second.result in
     (start.requires.1.sound.holds, omega (arith, some), omega (arith, some), subst (λ (v : ℕ). v < 2 ^ (8 * start.args.group.filled)) (sym sent.ensures) small)
 
@@ -42,7 +42,7 @@ write-group-requires c κs =
     let first = c.before.before.before.before.before.wide-by-g1 in
     let second = c.before.before.before.before.wide-by-g2 in
     let sent = c.before.before.before.group-symbols in
-    let fits = group-room start.args.rate start.args.octets.now start.args.symbols.now start.args.at start.args.group start.requires.0 start.requires.1 start.requires.2 start.requires.3
+    let fits = group_room start.args.rate start.args.octets.now start.args.symbols.now start.args.at start.args.group start.requires.0 start.requires.1 start.requires.2 start.requires.3
     window.result first.result second.result sent.result window.ensures.0 window.ensures.1 first.ensures second.ensures sent.ensures in
     (start.requires.0.filled, fits)
 
@@ -62,7 +62,7 @@ add-t19 c =
     let first = c.before.before.before.before.before.before.before.before.before.before.before.before.wide-by-g1 in
     let second = c.before.before.before.before.before.before.before.before.before.before.before.wide-by-g2 in
     let sent = c.before.before.before.before.before.before.before.before.before.before.group-symbols in
-    let fits = group-room start.args.rate start.args.octets.now start.args.symbols.now start.args.at start.args.group start.requires.0 start.requires.1 start.requires.2 start.requires.3
+    let fits = group_room start.args.rate start.args.octets.now start.args.symbols.now start.args.at start.args.group start.requires.0 start.requires.1 start.requires.2 start.requires.3
     window.result first.result second.result sent.result window.ensures.0 window.ensures.1 first.ensures second.ensures sent.ensures in
     omega (arith, fits)
 
@@ -76,7 +76,7 @@ returns c =
     let first = c.before.before.before.before.before.before.before.before.before.before.before.before.wide-by-g1 in
     let second = c.before.before.before.before.before.before.before.before.before.before.before.wide-by-g2 in
     let sent = c.before.before.before.before.before.before.before.before.before.before.group-symbols in
-    group-turned start.args.rate start.args.octets.now start.args.symbols.now start.args.at start.args.group start.requires.0 start.requires.1 start.requires.2 start.requires.3
+    group_turned start.args.rate start.args.octets.now start.args.symbols.now start.args.at start.args.group start.requires.0 start.requires.1 start.requires.2 start.requires.3
     window.result first.result second.result sent.result window.ensures.0 window.ensures.1 first.ensures second.ensures sent.ensures
     c.before.before.before.before.before.before.before.before.behind-held.result _ c.before.before.before.before.before.before.before.before.behind-held.ensures c.before.before.before.before.before.before.write-group.ensures
 

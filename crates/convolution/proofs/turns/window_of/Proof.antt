@@ -5,7 +5,7 @@ use Prim.Native.Nat.{ℕ, ◌≤◌, ◌-◌, ◌<◌, ◌+◌, ◌*◌, ◌/◌
 use native.Mathlib.Omega.{arith}
 use lib.ListN.{get_or, drop, take}
 use Rattle.convolution.specs.Coder.{low_bits, bits_of}
-use Rattle.convolution.proofs.Turning.{window-small, window-above, window-below}
+use Rattle.convolution.proofs.Turning.{window_small, window_above, window-below}
 use Rattle.convolution.proofs.turns.window_of.Statement.{statement}
 use Rattle.convolution.proofs.turns.window_of.Tie as tie
 
@@ -24,7 +24,7 @@ loop-holds c = (omega arith, omega arith, refl)
 mul-window : tie.Need-overflow-mul-window invariant-loop decreases-loop
 mul-window c =
     let at = c.before.loop in
-    omega (arith, window-small at.window at.k (omega arith) (subst (λ (r : ℕ). r < 64) (sym at.invariant.1) c.before.before.requires.0))
+    omega (arith, window_small at.window at.k (omega arith) (subst (λ (r : ℕ). r < 64) (sym at.invariant.1) c.before.before.requires.0))
 
 add-window : tie.Need-overflow-add-window invariant-loop decreases-loop
 add-window c = search rules
@@ -38,7 +38,7 @@ cast-window c = omega (arith, c.shared-slice-known.given (c.before.before.before
 add-window-2 : tie.Need-overflow-add-window-2 invariant-loop decreases-loop
 add-window-2 c =
     let at = c.before.before.loop in
-    omega (arith, window-small at.window at.k (omega arith) (subst (λ (r : ℕ). r < 64) (sym at.invariant.1) c.before.before.before.requires.0), c.shared-slice-known.given (c.before.before.before.args.at + at.k))
+    omega (arith, window_small at.window at.k (omega arith) (subst (λ (r : ℕ). r < 64) (sym at.invariant.1) c.before.before.before.requires.0), c.shared-slice-known.given (c.before.before.before.args.at + at.k))
 
 add-k : tie.Need-overflow-add-k invariant-loop decreases-loop
 add-k c = search rules
@@ -54,7 +54,7 @@ loop-again c =
     let octet = get_or octets (start.args.at + at.k) 0 in
     let small : octet < 256 = omega (arith, c.shared-slice-known.given (start.args.at + at.k)) in (
       omega arith,
-      window-above octets start.args.at at.k at.window octet (omega arith) small refl ∙ at.invariant.1,
+      window_above octets start.args.at at.k at.window octet (omega arith) small refl ∙ at.invariant.1,
       window-below octets start.args.at at.k at.window octet (omega arith) small refl at.invariant.2,
     )
 

@@ -4,7 +4,7 @@ use Prim.Native.Nat.{◌+◌, ◌-◌, ◌^◌, ◌<◌}
 use native.Mathlib.Nat.{lt_of_lt_of_le}
 use native.Mathlib.Omega.{arith}
 use lib.Pow.{pow_mono, shr_lt}
-use Rattle.convolution.proofs.Bits.{top-low}
+use Rattle.convolution.proofs.Bits.{top_low}
 use borrow.Author.Rules.{rules}
 use Rattle.convolution.proofs.writing.top_bits.Statement.{statement}
 use Rattle.convolution.proofs.writing.top_bits.Tie as tie
@@ -23,7 +23,7 @@ returns c =
     let n = c.args.n in
     let all : n + (8 - n) ≡ 8 = omega arith in
     let small : c.args.octet < 2 ^ (n + (8 - n)) = rw all (omega arith) in
-    (top-low n c.args.octet (omega arith), lt_of_lt_of_le (shr_lt n (8 - n) small) (pow_mono {i = n} {j = 7} (omega arith)))
+    (top_low n c.args.octet (omega arith), lt_of_lt_of_le (shr_lt n (8 - n) small) (pow_mono {i = n} {j = 7} (omega arith)))
 
 pub top-bits-spec : {M : Type 1} → statement M
 top-bits-spec = tie.close (tie.spec sub-result cast-result shr-result returns)

@@ -6,7 +6,7 @@ use Prim.Native.Nat.{ℕ, ◌≤◌, ◌-◌, ◌+◌, ◌*◌}
 use native.Mathlib.Omega.{arith}
 use lib.ListN.{length, take, set, length-set}
 use Rattle.convolution.specs.Coder.{low_bits, bits_of}
-use Rattle.convolution.proofs.Stream.{octet-written}
+use Rattle.convolution.proofs.Stream.{octet_written}
 use Rattle.convolution.proofs.writing.write_number.Statement.{statement}
 use Rattle.convolution.proofs.writing.write_number.Tie as tie
 
@@ -62,7 +62,7 @@ loop-again c =
       omega arith,
       length-set at.symbols place v ∙ at.invariant.1,
       ap₂ (λ (n m : ℕ). bits_of (take n (set at.symbols place v)) ++ low_bits m number) next left
-          ∙ octet-written at.symbols place number (8 * (start.args.n - at.k)) (8 * (start.args.n - 1 - at.k)) v (omega arith) (omega arith) c.octet-above.ensures
+          ∙ octet_written at.symbols place number (8 * (start.args.n - at.k)) (8 * (start.args.n - 1 - at.k)) v (omega arith) (omega arith) c.octet-above.ensures
           ∙ at.invariant.2,
     )
 

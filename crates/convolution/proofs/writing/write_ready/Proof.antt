@@ -2,12 +2,12 @@
 use borrow.Author.Rules.{rules}
 use native.Mathlib.Omega.{arith}
 use lib.ListN.{length-set}
-use Rattle.convolution.proofs.Stream.{ready-none, ready-one, ready-two}
+use Rattle.convolution.proofs.Stream.{ready_none, ready_one, ready_two}
 use Rattle.convolution.proofs.writing.write_ready.Statement.{statement}
 use Rattle.convolution.proofs.writing.write_ready.Tie as tie
 
 returns : tie.Need-returns
-returns c = ready-none c.before.before.args.symbols.now c.before.before.args.at c.before.before.args.held c.before.before.args.holds c.if1.true
+returns c = ready_none c.before.before.args.symbols.now c.before.before.args.at c.before.before.args.held c.before.before.args.holds c.if1.true
 
 octet-above-requires : tie.Need-octet-above-requires
 octet-above-requires c κs = search rules
@@ -19,7 +19,7 @@ same_length : tie.Need-same-length
 same_length c = search rules
 
 returns-2 : tie.Need-returns-2
-returns-2 c = ready-one c.before.before.before.before.args.symbols.now c.before.before.before.before.args.at c.before.before.before.before.args.held c.before.before.before.before.args.holds c.before.octet-above.result (omega arith) c.if2.true (omega arith) c.before.octet-above.ensures
+returns-2 c = ready_one c.before.before.before.before.args.symbols.now c.before.before.before.before.args.at c.before.before.before.before.args.held c.before.before.before.before.args.holds c.before.octet-above.result (omega arith) c.if2.true (omega arith) c.before.octet-above.ensures
 
 octet-above-requires-2 : tie.Need-octet-above-requires-2
 octet-above-requires-2 c κs = search rules
@@ -34,7 +34,7 @@ same-length-2 : tie.Need-same-length-2
 same-length-2 c = search rules
 
 returns-3 : tie.Need-returns-3
-returns-3 c = ready-two c.before.before.before.before.before.args.symbols.now c.before.before.before.before.before.args.at c.before.before.before.before.before.args.held c.before.before.before.before.before.args.holds c.before.before.octet-above.result c.octet-above2.result (omega arith) (omega arith) (omega arith) c.before.before.octet-above.ensures c.octet-above2.ensures
+returns-3 c = ready_two c.before.before.before.before.before.args.symbols.now c.before.before.before.before.before.args.at c.before.before.before.before.before.args.held c.before.before.before.before.before.args.holds c.before.before.octet-above.result c.octet-above2.result (omega arith) (omega arith) (omega arith) c.before.before.octet-above.ensures c.octet-above2.ensures
 
 pub write-ready-spec : {M : Type 1} → statement M
 write-ready-spec =

@@ -2,7 +2,7 @@
 use mathlib.Core.Path.{sym, subst}
 use Prim.Native.Nat.{ℕ}
 use Rattle.encoding.specs.Working.{StrengthTable}
-use Rattle.encoding.proofs.StepTables.{other-strength}
+use Rattle.encoding.proofs.StepTables.{other_strength}
 use borrow.Author.Rules.{rules}
 use Rattle.encoding.proofs.encoder.enter.Statement.{statement}
 use Rattle.encoding.proofs.encoder.enter.Tie as tie
@@ -32,7 +32,7 @@ enter-few-requires-2 : tie.Need-enter-few-requires-2
 enter-few-requires-2 c κs = search rules
 
 returns-3 : tie.Need-returns-3
-returns-3 c = c.enter-few2.ensures _ c.before.before.before.before.before.before.requires.0 (subst (λ (e : ℕ). StrengthTable e c.before.before.bits-16.result) (sym (other-strength _ c.before.before.before.before.before.before.requires.0 c.before.before.before.before.if1.false)) c.before.before.bits-16.ensures)
+returns-3 c = c.enter-few2.ensures _ c.before.before.before.before.before.before.requires.0 (subst (λ (e : ℕ). StrengthTable e c.before.before.bits-16.result) (sym (other_strength _ c.before.before.before.before.before.before.requires.0 c.before.before.before.before.if1.false)) c.before.before.bits-16.ensures)
 
 bits-16-requires-2 : tie.Need-bits-16-requires-2
 bits-16-requires-2 c κs = search rules
@@ -41,7 +41,7 @@ enter-many-requires-2 : tie.Need-enter-many-requires-2
 enter-many-requires-2 c κs = search rules
 
 returns-4 : tie.Need-returns-4
-returns-4 c = c.enter-many2.ensures _ c.before.before.before.before.before.before.requires.0 (subst (λ (e : ℕ). StrengthTable e c.before.before.bits-162.result) (sym (other-strength _ c.before.before.before.before.before.before.requires.0 c.before.before.before.before.if1.false)) c.before.before.bits-162.ensures)
+returns-4 c = c.enter-many2.ensures _ c.before.before.before.before.before.before.requires.0 (subst (λ (e : ℕ). StrengthTable e c.before.before.bits-162.result) (sym (other_strength _ c.before.before.before.before.before.before.requires.0 c.before.before.before.before.if1.false)) c.before.before.bits-162.ensures)
 
 pub enter_spec : {M : Type 1} → statement M
 enter_spec =

@@ -4,7 +4,7 @@ use mathlib.Core.Logic.{⊎_elim}
 use Prim.Native.Nat.{◌≤◌, ◌-◌}
 use native.Mathlib.Omega.{arith}
 use lib.ListN.{length}
-use Rattle.encoding.proofs.RowTurns.{Turn, turn-start, turn-symbol, turn-word, turn_end}
+use Rattle.encoding.proofs.RowTurns.{Turn, turn_start, turn_symbol, turn_word, turn_end}
 use borrow.Author.Rules.{rules}
 use Rattle.encoding.proofs.encoder.enter_few.Statement.{statement}
 use Rattle.encoding.proofs.encoder.enter_few.Tie as tie
@@ -16,7 +16,7 @@ abbrev decreases-loop : tie.decreases-loop
 decreases-loop rows₀ first symbols depth bits word₀ n at₀ rows word at = length symbols - at
 
 loop-holds : tie.Need-loop-init invariant-loop decreases-loop
-loop-holds c = (omega arith, turn-start _ _ _ _ _ (search rules) (search rules))
+loop-holds c = (omega arith, turn_start _ _ _ _ _ (search rules) (search rules))
 
 mul-row : tie.Need-overflow-mul-row invariant-loop decreases-loop
 mul-row c = search rules
@@ -49,8 +49,8 @@ loop-again : tie.Need-loop-preserved invariant-loop decreases-loop
 loop-again c = (
   omega arith,
   ⊎_elim
-      (λ w. turn-symbol _ _ _ _ _ _ c.before.before.before.before.before.before.loop.word _ _ _ c.before.before.before.before.before.before.loop.invariant.1 (omega arith) refl c.before.entered-by-bits.ensures _ w.1 w.0.taken)
-      (λ w. turn-word _ _ _ _ _ _ c.before.before.before.before.before.before.loop.word _ _ _ c.before.before.before.before.before.before.loop.invariant.1 (omega arith) refl c.before.entered-by-bits.ensures _ w.1 w.0.left)
+      (λ w. turn_symbol _ _ _ _ _ _ c.before.before.before.before.before.before.loop.word _ _ _ c.before.before.before.before.before.before.loop.invariant.1 (omega arith) refl c.before.entered-by-bits.ensures _ w.1 w.0.taken)
+      (λ w. turn_word _ _ _ _ _ _ c.before.before.before.before.before.before.loop.word _ _ _ c.before.before.before.before.before.before.loop.invariant.1 (omega arith) refl c.before.entered-by-bits.ensures _ w.1 w.0.left)
       c.if1.branch,
 )
 

@@ -6,7 +6,7 @@ use Prim.Native.Nat.{ℕ, ◌≤◌, ◌<◌, ◌-◌}
 use native.Mathlib.Omega.{arith}
 use lib.ListN.{length, length-set}
 use Rattle.check_rows.specs.Rows.{SumTable}
-use Rattle.encoding.proofs.RowTurns.{Turn, turn-start, turn-symbol, turn-word, turn_end}
+use Rattle.encoding.proofs.RowTurns.{Turn, turn_start, turn_symbol, turn_word, turn_end}
 use borrow.Author.Rules.{rules}
 use Rattle.encoding.proofs.encoder.enter_many.Statement.{statement}
 use Rattle.encoding.proofs.encoder.enter_many.Tie as tie
@@ -22,7 +22,7 @@ table-of-requires : tie.Need-table-of-requires invariant-loop decreases-loop
 table-of-requires c κs = search rules
 
 loop-holds : tie.Need-loop-init invariant-loop decreases-loop
-loop-holds c = (omega arith, omega arith, search rules, λ bits S. turn-start _ _ _ _ _ (search rules) (search rules))
+loop-holds c = (omega arith, omega arith, search rules, λ bits S. turn_start _ _ _ _ _ (search rules) (search rules))
 
 mul-row : tie.Need-overflow-mul-row invariant-loop decreases-loop
 mul-row c = search rules
@@ -58,8 +58,8 @@ loop-again c =
       ⊎_elim (λ w. omega (arith, w.1)) (λ w. omega (arith, w.1, w.0.left)) c.if1.branch,
       length-set before.rows before.word _ ∙ before.invariant.2,
       λ bits S. ⊎_elim
-          (λ w. turn-symbol _ _ _ _ _ _ before.word _ _ _ (before.invariant.3 bits S) (omega arith) refl (c.before.entered-by-table.ensures bits S) _ w.1 w.0.taken)
-          (λ w. turn-word _ _ _ _ _ _ before.word _ _ _ (before.invariant.3 bits S) (omega arith) refl (c.before.entered-by-table.ensures bits S) _ w.1 w.0.left)
+          (λ w. turn_symbol _ _ _ _ _ _ before.word _ _ _ (before.invariant.3 bits S) (omega arith) refl (c.before.entered-by-table.ensures bits S) _ w.1 w.0.taken)
+          (λ w. turn_word _ _ _ _ _ _ before.word _ _ _ (before.invariant.3 bits S) (omega arith) refl (c.before.entered-by-table.ensures bits S) _ w.1 w.0.left)
           c.if1.branch,
     )
 

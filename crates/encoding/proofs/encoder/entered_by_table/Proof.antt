@@ -2,10 +2,10 @@
 use lib.ListN.{get_or}
 use mir.Syntax.{w8}
 use mir.Val.{Fits}
-use Rattle.field.proofs.Sum.{⊕-octet}
-use Rattle.check_rows.proofs.Steps.{stepped-alike}
+use Rattle.field.proofs.Sum.{⊕_octet}
+use Rattle.check_rows.proofs.Steps.{stepped_alike}
 use borrow.Author.Rules.{rules}
-use Rattle.encoding.proofs.StepTables.{stepped-entered}
+use Rattle.encoding.proofs.StepTables.{stepped_entered}
 use Rattle.encoding.proofs.encoder.entered_by_table.Statement.{statement}
 use Rattle.encoding.proofs.encoder.entered_by_table.Tie as tie
 
@@ -15,8 +15,8 @@ stepped-by-table-requires c κs = search rules
 returns : tie.Need-returns
 returns c =
     let octet : Fits w8 (get_or c.before.args.row 0 0) = search rules in
-    λ bits S. stepped-entered bits c.before.args.row _ _ (search rules) (⊕-octet c.before.args.symbol _ (search rules) octet.fits)
-    (stepped-alike bits _ c.before.args.row c.before.args.symbol _ S (search rules) octet.fits c.stepped-by-table.ensures)
+    λ bits S. stepped_entered bits c.before.args.row _ _ (search rules) (⊕_octet c.before.args.symbol _ (search rules) octet.fits)
+    (stepped_alike bits _ c.before.args.row c.before.args.symbol _ S (search rules) octet.fits c.stepped-by-table.ensures)
 
 pub entered-by-table-spec : {M : Type 1} → statement M
 entered-by-table-spec = tie.close (tie.spec stepped-by-table-requires returns)

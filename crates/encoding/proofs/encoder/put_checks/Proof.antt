@@ -4,8 +4,8 @@ use mathlib.Core.Logic.{⊎_elim}
 use Prim.Native.Nat.{◌≤◌, ◌-◌, ◌<◌, ◌+◌, ◌*◌}
 use native.Mathlib.Omega.{arith}
 use lib.ListN.{length}
-use Rattle.check_rows.proofs.Filling.{Filled, filled-start, filled-turn, filled-before}
-use Rattle.encoding.proofs.Interleaving.{symbol-below, next_word, next-symbol, interleaved, interleaved-at}
+use Rattle.check_rows.proofs.Filling.{Filled, filled-start, filled_turn, filled_before}
+use Rattle.encoding.proofs.Interleaving.{symbol_below, next_word, next_symbol, interleaved, interleaved-at}
 use borrow.Author.Rules.{rules}
 use Rattle.encoding.proofs.encoder.put_checks.Statement.{statement}
 use Rattle.encoding.proofs.encoder.put_checks.Tie as tie
@@ -27,7 +27,7 @@ index-1-block : tie.Need-bounds-1-block invariant-loop decreases-loop
 index-1-block c = search rules
 
 index-2-block : tie.Need-bounds-2-block invariant-loop decreases-loop
-index-2-block c = omega (arith, symbol-below c.before.before.args.depth c.before.loop.check 32 c.before.loop.word (omega arith))
+index-2-block c = omega (arith, symbol_below c.before.before.args.depth c.before.loop.check 32 c.before.loop.word (omega arith))
 
 slice-write-block : tie.Need-slice-write-block invariant-loop decreases-loop
 slice-write-block c = search rules
@@ -36,7 +36,7 @@ add-word : tie.Need-overflow-add-word invariant-loop decreases-loop
 add-word c = search rules
 
 add-check : tie.Need-overflow-add-check invariant-loop decreases-loop
-add-check c = omega (arith, symbol-below c.before.before.before.before.args.depth c.before.before.before.loop.check 32 c.before.before.before.loop.word (omega arith))
+add-check c = omega (arith, symbol_below c.before.before.before.before.args.depth c.before.before.before.loop.check 32 c.before.before.before.loop.word (omega arith))
 
 add_at : tie.Need-overflow-add-at invariant-loop decreases-loop
 add_at c = search rules
@@ -46,9 +46,9 @@ loop-less c = search rules
 
 loop-again : tie.Need-loop-preserved invariant-loop decreases-loop
 loop-again c =
-    let filled : Filled _ _ _ _ _ = filled-turn _ _ _ c.before.before.before.loop.at _ _ _ (omega arith) (omega arith) (interleaved-at _ _ _ _ _ _ c.before.before.before.loop.invariant.3 c.before.before.before.loop.invariant.2) refl c.before.before.before.loop.invariant.4 in
+    let filled : Filled _ _ _ _ _ = filled_turn _ _ _ c.before.before.before.loop.at _ _ _ (omega arith) (omega arith) (interleaved-at _ _ _ _ _ _ c.before.before.before.loop.invariant.3 c.before.before.before.loop.invariant.2) refl c.before.before.before.loop.invariant.4 in
     ⊎_elim
-    (λ w. (omega arith, omega arith, omega (arith, w.1, w.2, w.0.taken), next-symbol _ _ _ _ _ _ _ c.before.before.before.loop.invariant.3 w.0.taken w.1 w.2, filled))
+    (λ w. (omega arith, omega arith, omega (arith, w.1, w.2, w.0.taken), next_symbol _ _ _ _ _ _ _ c.before.before.before.loop.invariant.3 w.0.taken w.1 w.2, filled))
     (λ w. (omega arith, omega arith, omega (arith, w.1, w.2, w.0.left), next_word _ _ _ _ _ _ _ c.before.before.before.loop.invariant.3 w.1 w.2, filled))
     c.if1.branch
 
@@ -59,7 +59,7 @@ returns : tie.Need-returns invariant-loop decreases-loop
 returns c =
     record {
       size = c.before.loop.invariant.4.size;
-      front = filled-before _ _ _ _ _ c.before.loop.invariant.4;
+      front = filled_before _ _ _ _ _ c.before.loop.invariant.4;
       checks = λ j w h l. c.before.loop.invariant.4.done _ (omega arith) (omega arith) ∙ sym (interleaved-at _ _ _ _ j w refl h);
     }
 

@@ -14,8 +14,8 @@ may-enter-requires c κs = search rules
 returns : tie.Need-returns
 returns c =
     record {
-      whenMay = λ m. absurd (denied c.before.may-enter.result (MayEnter c.before.before.before.args.e c.before.before.before.args.depth c.before.before.before.args.first) c.if1.true c.before.may-enter.ensures m);
-      whenNot = λ n. refl;
+      when_may = λ m. absurd (denied c.before.may-enter.result (MayEnter c.before.before.before.args.e c.before.before.before.args.depth c.before.before.before.args.first) c.if1.true c.before.may-enter.ensures m);
+      when_not = λ n. refl;
     }
 
 may : (c : tie.After-after) → MayEnter c.before.before.before.before.args.e c.before.before.before.before.args.depth c.before.before.before.before.args.first
@@ -26,7 +26,7 @@ enter-requires c κs = ((may c).strength, omega (arith, (may c).within), (may c)
 
 -- entered
 returns-2 : tie.Need-returns-2
-returns-2 c = record { whenMay = λ m. c.enter.ensures; whenNot = λ n. absurd (n (may c.before)) }
+returns-2 c = record { when_may = λ m. c.enter.ensures; when_not = λ n. absurd (n (may c.before)) }
 
 pub rows-entered-spec : {M : Type 1} → statement M
 rows-entered-spec = tie.close (tie.spec may-enter-requires returns enter-requires returns-2)

@@ -12,7 +12,7 @@ checks-fit-requires c κs = search rules
 
 -- not written
 returns : tie.Need-returns
-returns c = record { whenNot = λ n. refl; whenFit = λ f. absurd (denied c.before.checks-fit.result (ChecksFit _ _ _) c.if1.true c.before.checks-fit.ensures f) }
+returns c = record { when_not = λ n. refl; when_fit = λ f. absurd (denied c.before.checks-fit.result (ChecksFit _ _ _) c.if1.true c.before.checks-fit.ensures f) }
 
 fit : (c : tie.Else1) → ChecksFit c.before.before.before.args.depth c.before.before.before.args.start (length c.before.before.before.args.block.now)
 fit c = granted c.before.checks-fit.result (ChecksFit _ _ _) c.if1.false c.before.checks-fit.ensures
@@ -25,7 +25,7 @@ same_length c = search rules
 
 -- written
 returns-2 : tie.Need-returns-2
-returns-2 c = record { whenFit = λ f. c.before.before.put-checks.ensures; whenNot = λ n. absurd (n (fit c.before.before.before.before)) }
+returns-2 c = record { when_fit = λ f. c.before.before.put-checks.ensures; when_not = λ n. absurd (n (fit c.before.before.before.before)) }
 
 pub write-checks-spec : {M : Type 1} → statement M
 write-checks-spec =

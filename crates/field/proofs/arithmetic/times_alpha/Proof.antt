@@ -2,7 +2,7 @@
 use mathlib.Core.Path.{refl}
 use native.Mathlib.Omega.{arith}
 use borrow.Author.Rules.{rules}
-use Rattle.field.proofs.Turns.{alpha-is}
+use Rattle.field.proofs.Turns.{alpha_is}
 use Rattle.field.proofs.arithmetic.times_alpha.Statement.{statement}
 use Rattle.field.proofs.arithmetic.times_alpha.Tie as tie
 
@@ -10,7 +10,7 @@ mul-result : tie.Need-overflow-mul-result
 mul-result c = search rules
 
 returns : tie.Need-returns
-returns c = alpha-is c.args.a _ (search rules) refl
+returns c = alpha_is c.args.a _ (search rules) refl
 
 pub times-alpha-spec : {M : Type 1} → statement M
 times-alpha-spec = tie.close (tie.spec mul-result returns)

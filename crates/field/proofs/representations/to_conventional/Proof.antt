@@ -1,6 +1,6 @@
 -- `to_conventional` lends its matrix to `times_matrix`.
 use borrow.Author.Rules.{rules}
-use Rattle.field.specs.Line.{toConventional}
+use Rattle.field.specs.Line.{to_conventional}
 use Rattle.field.proofs.representations.to_conventional.Statement.{statement}
 use Rattle.field.proofs.representations.to_conventional.Tie as tie
 
@@ -8,7 +8,7 @@ times-matrix-requires : tie.Need-times-matrix-requires
 times-matrix-requires c κs = search rules
 
 returns : tie.Need-returns
-unfolding toConventional
+unfolding to_conventional
 returns c = c.times-matrix.ensures
 
 pub to-conventional-spec : {M : Type 1} → statement M

@@ -1,6 +1,6 @@
 -- `to_line` lends its matrix to `times_matrix`.
 use borrow.Author.Rules.{rules}
-use Rattle.field.specs.Line.{toLine}
+use Rattle.field.specs.Line.{to_line}
 use Rattle.field.proofs.representations.to_line.Statement.{statement}
 use Rattle.field.proofs.representations.to_line.Tie as tie
 
@@ -8,7 +8,7 @@ times-matrix-requires : tie.Need-times-matrix-requires
 times-matrix-requires c κs = search rules
 
 returns : tie.Need-returns
-unfolding toLine
+unfolding to_line
 returns c = c.times-matrix.ensures
 
 pub to-line-spec : {M : Type 1} → statement M

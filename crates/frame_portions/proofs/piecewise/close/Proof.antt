@@ -2,21 +2,21 @@
 -- so that a promise that is not kept is what a check names first.
 use lib.ListN.{length}
 use Rattle.refusals.proofs.Verdicts.{passed}
-use Rattle.frame_portions.proofs.PortionSteps.{CloseLegal, close-legal, close-fits, close-refuses, close-accepts}
+use Rattle.frame_portions.proofs.PortionSteps.{CloseLegal, close_legal, close_fits, close_refuses, close_accepts}
 use borrow.Author.Rules.{rules}
 use Rattle.frame_portions.proofs.piecewise.close.Statement.{statement}
 use Rattle.frame_portions.proofs.piecewise.close.Tie as tie
 
 -- refused for a parameter or for its place
 returns : tie.Need-returns
-returns c = close-refuses _ _ _ _ _ _ _ c.before.verdict.given.1 c.before.before.before.close-parameters.ensures
+returns c = close_refuses _ _ _ _ _ _ _ c.before.verdict.given.1 c.before.before.before.close-parameters.ensures
 
 legal : (c : tie.After-enum-told) → CloseLegal c.before.before.before.before.args.e c.before.before.before.before.args.depth c.before.before.before.before.args.fill (length c.before.before.before.before.args.checks.now) c.before.before.before.before.args.state.place c.before.before.before.before.args.state.closed
-legal c = search (close-legal, passed)
+legal c = search (close_legal, passed)
 
 -- accepted
 returns-2 : tie.Need-returns-2
-returns-2 c = close-accepts _ _ _ _ _ _ _ (search passed) c.before.before.before.before.octet-rows.ensures (c.before.before.write-checks.ensures.whenFit (close-fits _ _ _ _ _ _ (legal c.before.before.before.before.before.before)))
+returns-2 c = close_accepts _ _ _ _ _ _ _ (search passed) c.before.before.before.before.octet-rows.ensures (c.before.before.write-checks.ensures.when_fit (close_fits _ _ _ _ _ _ (legal c.before.before.before.before.before.before)))
 
 close-parameters-requires : tie.Need-close-parameters-requires
 close-parameters-requires c κs = search rules

@@ -1,7 +1,7 @@
 -- `octet_rows` takes each row's octets.
 use mathlib.Core.Path.{ap}
 use mathlib.Core.List.{[], map}
-use Rattle.frame_portions.specs.Portions.{octetsOf, row_of}
+use Rattle.frame_portions.specs.Portions.{octets_of, row_of}
 use Rattle.frame_portions.proofs.Eight.{eight}
 use borrow.Author.Rules.{rules}
 use Rattle.frame_portions.proofs.piecewise.octet_rows.Statement.{statement}
@@ -32,7 +32,7 @@ array-copy-out-row-7 : tie.Need-array-copy-out-row-7
 array-copy-out-row-7 c = search rules
 
 returns : tie.Need-returns
-returns c = ap (map octetsOf) (eight (row_of []) c.before.before.before.before.before.before.before.before.before.before.before.before.before.before.before.before.args.t1 (search rules))
+returns c = ap (map octets_of) (eight (row_of []) c.before.before.before.before.before.before.before.before.before.before.before.before.before.before.before.before.args.t1 (search rules))
 
 pub octet-rows-spec : {M : Type 1} → statement M
 octet-rows-spec =

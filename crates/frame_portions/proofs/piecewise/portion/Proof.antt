@@ -3,21 +3,21 @@
 use native.Mathlib.Omega.{arith}
 use lib.ListN.{length}
 use Rattle.refusals.proofs.Verdicts.{passed}
-use Rattle.frame_portions.proofs.PortionSteps.{PortionLegal, portion-legal, place-small, portion-enters, portion-refuses, taken_is, portion-accepts}
+use Rattle.frame_portions.proofs.PortionSteps.{PortionLegal, portion_legal, place_small, portion_enters, portion_refuses, taken_is, portion_accepts}
 use borrow.Author.Rules.{rules}
 use Rattle.frame_portions.proofs.piecewise.portion.Statement.{statement}
 use Rattle.frame_portions.proofs.piecewise.portion.Tie as tie
 
 -- refused for a parameter or for its place
 returns : tie.Need-returns
-returns c = portion-refuses _ _ _ _ _ _ _ _ c.before.verdict.given.1 c.before.before.before.portion-parameters.ensures
+returns c = portion_refuses _ _ _ _ _ _ _ _ c.before.verdict.given.1 c.before.before.before.portion-parameters.ensures
 
 legal : (c : tie.After-enum-told) → PortionLegal c.before.before.before.before.before.args.e c.before.before.before.before.before.args.depth c.before.before.before.before.before.args.fill (length c.before.before.before.before.before.args.symbols.now) (length c.before.before.before.before.before.args.written.now) c.before.before.before.before.before.args.state.place c.before.before.before.before.before.args.state.closed
-legal c = search (portion-legal, passed)
+legal c = search (portion_legal, passed)
 
 -- accepted
 returns-2 : tie.Need-returns-2
-returns-2 c = portion-accepts _ _ _ _ _ _ _ _ (search passed) (taken_is _ _ c.before.before.before.before.before.before.before.before.before.before.before.before.before.before.before.args.state _ _ _ _ _ _ c.before.moved_on.ensures c.before.before.before.before.before.before.before.word_at.ensures.0 c.before.before.before.before.before.before.before.before.octet-rows.ensures (c.before.before.before.before.before.before.rows-entered.ensures.whenMay (portion-enters _ _ _ _ _ _ _ _ (legal c.before.before.before.before.before.before.before.before.before.before) c.before.before.before.before.before.before.before.word_at.ensures.1)) c.held_rows.ensures) c.before.before.before.before.copy-front.ensures
+returns-2 c = portion_accepts _ _ _ _ _ _ _ _ (search passed) (taken_is _ _ c.before.before.before.before.before.before.before.before.before.before.before.before.before.before.before.args.state _ _ _ _ _ _ c.before.moved_on.ensures c.before.before.before.before.before.before.before.word_at.ensures.0 c.before.before.before.before.before.before.before.before.octet-rows.ensures (c.before.before.before.before.before.before.rows-entered.ensures.when_may (portion_enters _ _ _ _ _ _ _ _ (legal c.before.before.before.before.before.before.before.before.before.before) c.before.before.before.before.before.before.before.word_at.ensures.1)) c.held_rows.ensures) c.before.before.before.before.copy-front.ensures
 
 portion-parameters-requires : tie.Need-portion-parameters-requires
 portion-parameters-requires c κs = search rules
@@ -41,7 +41,7 @@ copy-front-requires : tie.Need-copy-front-requires
 copy-front-requires c κs = search rules
 
 moved-on-requires : tie.Need-moved-on-requires
-moved-on-requires c κs = place-small _ _ _ _ _ _ _ (legal c.before.before.before.before.before.before.before.before)
+moved-on-requires c κs = place_small _ _ _ _ _ _ _ (legal c.before.before.before.before.before.before.before.before)
 
 held-rows-requires : tie.Need-held-rows-requires
 held-rows-requires c κs = search rules

@@ -1,5 +1,5 @@
 -- `put_count`: done with the count set, or refused with it as it was.
-use Rattle.ironsimmer.proofs.Running.{count-done, count-refused}
+use Rattle.ironsimmer.proofs.Running.{count_done, count_refused}
 use borrow.Author.Rules.{rules}
 use Rattle.ironsimmer.proofs.coder.put_count.Statement.{statement}
 use Rattle.ironsimmer.proofs.coder.put_count.Tie as tie
@@ -14,10 +14,10 @@ parameter-number-requires : tie.Need-parameter-number-requires
 parameter-number-requires c κs = search rules
 
 returns : tie.Need-returns
-returns c = count-done _ _ c.before.answer.given.1
+returns c = count_done _ _ c.before.answer.given.1
 
 returns-2 : tie.Need-returns-2
-returns-2 c = count-refused _ _ _ c.before.before.answer2.given.1 c.parameter-number.ensures
+returns-2 c = count_refused _ _ _ c.before.before.answer2.given.1 c.parameter-number.ensures
 
 pub put-count-spec : {M : Type 1} → statement M
 put-count-spec =

@@ -1,5 +1,5 @@
 -- `put` leaves what is lent at a refusal; else the state is put in place whole.
-use Rattle.ironsimmer.proofs.States.{put_refused, put-accepted}
+use Rattle.ironsimmer.proofs.States.{put_refused, put_accepted}
 use borrow.Author.Rules.{rules}
 use Rattle.ironsimmer.proofs.portions.put.Statement.{statement}
 use Rattle.ironsimmer.proofs.portions.put.Tie as tie
@@ -24,7 +24,7 @@ truth-number-requires c κs = search rules
 
 returns-2 : tie.Need-returns-2
 returns-2 c =
-    put-accepted _ _ _ _ _ _ (search) c.before.truth-number.ensures c.before.before.octet-rows.ensures
+    put_accepted _ _ _ _ _ _ (search) c.before.truth-number.ensures c.before.before.octet-rows.ensures
 
 pub put_spec : {M : Type 1} → statement M
 put_spec =

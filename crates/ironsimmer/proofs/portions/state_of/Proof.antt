@@ -1,5 +1,5 @@
 -- `state_of` copies what is lent.
-use Rattle.ironsimmer.proofs.States.{state-is}
+use Rattle.ironsimmer.proofs.States.{state_is}
 use borrow.Author.Rules.{rules}
 use Rattle.ironsimmer.proofs.portions.state_of.Statement.{statement}
 use Rattle.ironsimmer.proofs.portions.state_of.Tie as tie
@@ -14,7 +14,7 @@ held-rows-requires : tie.Need-held-rows-requires
 held-rows-requires c κs = search rules
 
 returns : tie.Need-returns
-returns c = state-is c.before.before.before.before.args.progress.now c.before.before.before.before.args.rows.now _ c.held_rows.ensures
+returns c = state_is c.before.before.before.before.args.progress.now c.before.before.before.before.args.rows.now _ c.held_rows.ensures
 
 pub state-of-spec : {M : Type 1} → statement M
 state-of-spec =

@@ -1,6 +1,6 @@
 -- `common_at` adds what each of the three octets adds.
 use Rattle.std.proofs.Common.{arith, rules}
-use Rattle.marker.proofs.OctetTable.{octet-most, common-are}
+use Rattle.marker.proofs.OctetTable.{octet_most, common_are}
 use Rattle.marker.proofs.lanes.common_at.Statement.{statement}
 use Rattle.marker.proofs.lanes.common_at.Tie as tie
 
@@ -23,7 +23,7 @@ added-requires-2 : tie.Need-added-requires-2
 added-requires-2 c κs = search rules
 
 add-result : tie.Need-overflow-add-result
-add-result c = omega (arith, octet-most _ c.before.before.added.ensures, octet-most _ c.added2.ensures)
+add-result c = omega (arith, octet_most _ c.before.before.added.ensures, octet_most _ c.added2.ensures)
 
 add-added-3 : tie.Need-overflow-add-added-3
 add-added-3 c = search rules
@@ -35,12 +35,12 @@ added-requires-3 : tie.Need-added-requires-3
 added-requires-3 c κs = search rules
 
 add-result-2 : tie.Need-overflow-add-result-2
-add-result-2 c = omega (arith, octet-most _ c.before.before.before.before.added.ensures, octet-most _ c.before.before.added2.ensures, octet-most _ c.added3.ensures)
+add-result-2 c = omega (arith, octet_most _ c.before.before.before.before.added.ensures, octet_most _ c.before.before.added2.ensures, octet_most _ c.added3.ensures)
 
 returns : tie.Need-returns
 returns c =
     let given = c.before.before.before.before.before.before.before.args in
-    common-are given.stream.now given.i (λ n. omega (arith, c.before.shared-slice-known4.given n))
+    common_are given.stream.now given.i (λ n. omega (arith, c.before.shared-slice-known4.given n))
     c.before.before.before.before.added.ensures c.before.before.added2.ensures c.added3.ensures
 
 pub common-at-spec : {M : Type 1} → statement M

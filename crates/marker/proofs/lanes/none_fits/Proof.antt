@@ -1,6 +1,6 @@
 -- `none_fits` answers yes only where the walk spent its budget, which is all the places of the octets.
 use Rattle.std.proofs.Common.{◌≡◌, ℕ, ◌-◌, ◌*◌, arith, rules}
-use Rattle.marker.proofs.Passing.{none-spent}
+use Rattle.marker.proofs.Passing.{none_spent}
 use Rattle.marker.proofs.lanes.none_fits.Statement.{statement}
 use Rattle.marker.proofs.lanes.none_fits.Tie as tie
 
@@ -22,7 +22,7 @@ enum_told c = search rules
 returns : tie.Need-returns
 returns c =
     let a = c.before.before.before.before.args in
-    let none = none-spent a.tolerance a.stream.now (8 * a.first) (8 * (a.end - a.first)) _ c.enum_told.given.1 c.before.before.walk.ensures in
+    let none = none_spent a.tolerance a.stream.now (8 * a.first) (8 * (a.end - a.first)) _ c.enum_told.given.1 c.before.before.walk.ensures in
     λ yes p from below. none p from (omega arith)
 
 returns-2 : tie.Need-returns-2

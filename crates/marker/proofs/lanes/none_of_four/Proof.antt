@@ -1,7 +1,7 @@
 -- `none_of_four`: all top bits are set in each of the four.
 use Rattle.std.proofs.Common.{rules, eqb-true}
-use Rattle.marker.proofs.Packed.{tops-kept}
-use Rattle.marker.proofs.Skipping.{none-in-four}
+use Rattle.marker.proofs.Packed.{tops_kept}
+use Rattle.marker.proofs.Skipping.{none_in_four}
 use Rattle.marker.proofs.lanes.none_of_four.Statement.{statement}
 use Rattle.marker.proofs.lanes.none_of_four.Tie as tie
 
@@ -28,7 +28,7 @@ tops-at-requires-4 c κs = search rules
 
 returns : tie.Need-returns
 returns c = λ e.
-    none-in-four _ _ _ _ _ _ _ (tops-kept _ (eqb-true _ _ e))
+    none_in_four _ _ _ _ _ _ _ (tops_kept _ (eqb-true _ _ e))
     c.before.before.before.tops-at.ensures c.before.before.tops-at2.ensures c.before.tops-at3.ensures c.tops-at4.ensures
 
 pub none-of-four-spec : {M : Type 1} → statement M

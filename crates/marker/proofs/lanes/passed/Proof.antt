@@ -2,7 +2,7 @@
 use Rattle.std.proofs.Common.{◌-◌, ◌*◌, ◌≤◌, arith, rules}
 use borrow.Author.Tests.{not-false}
 use Rattle.marker.specs.Place.{NoneFits}
-use Rattle.marker.proofs.Passing.{none-joined}
+use Rattle.marker.proofs.Passing.{none_joined}
 use Rattle.marker.proofs.lanes.passed.Statement.{statement}
 use Rattle.marker.proofs.lanes.passed.Tie as tie
 
@@ -33,7 +33,7 @@ loop-less c = search rules
 loop-again : tie.Need-loop-preserved invariant-loop decreases-loop
 loop-again c =
     let before = c.before.before.before.loop.invariant.2 in
-    (omega arith, omega arith, none-joined _ _ _ _ _ before (c.before.none_of_four.ensures (not-false _ c.if1.false)))
+    (omega arith, omega arith, none_joined _ _ _ _ _ before (c.before.none_of_four.ensures (not-false _ c.if1.false)))
 
 returns-2 : tie.Need-returns-2 invariant-loop decreases-loop
 returns-2 c = c.before.loop.invariant

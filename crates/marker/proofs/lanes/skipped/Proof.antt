@@ -2,7 +2,7 @@
 use Rattle.std.proofs.Common.{◌-◌, ◌*◌, ◌≤◌, arith, rules}
 use borrow.Author.Tests.{not-false}
 use Rattle.marker.specs.Place.{NoneFits}
-use Rattle.marker.proofs.Passing.{none-joined}
+use Rattle.marker.proofs.Passing.{none_joined}
 use Rattle.marker.proofs.lanes.skipped.Statement.{statement}
 use Rattle.marker.proofs.lanes.skipped.Tie as tie
 
@@ -31,7 +31,7 @@ returns : tie.Need-returns invariant-loop decreases-loop
 returns c =
     let front = c.before.before.before.before.before.before.loop.invariant.2 in
     let near = c.before.before.before.passed.ensures in
-    (omega arith, near.1, none-joined _ _ _ _ _ front near.2)
+    (omega arith, near.1, none_joined _ _ _ _ _ front near.2)
 
 loop-less : tie.Need-loop-smaller invariant-loop decreases-loop
 loop-less c = search rules
@@ -41,7 +41,7 @@ loop-again c =
     let front = c.before.before.before.before.before.before.loop.invariant.2 in
     let near = c.before.before.before.passed.ensures in
     let none = c.before.none-fits.ensures (not-false _ c.if1.false) in
-    (omega arith, c.before.before.next_of.ensures.1, none-joined _ _ _ _ _ (none-joined _ _ _ _ _ front near.2) none)
+    (omega arith, c.before.before.next_of.ensures.1, none_joined _ _ _ _ _ (none_joined _ _ _ _ _ front near.2) none)
 
 returns-2 : tie.Need-returns-2 invariant-loop decreases-loop
 returns-2 c =

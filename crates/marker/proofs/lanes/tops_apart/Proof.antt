@@ -1,6 +1,6 @@
 -- `tops_apart` computes what its definition says: no octet of a sum reaches the next, so that the sums fit.
 use Rattle.std.proofs.Common.{refl, rules}
-use Rattle.marker.specs.Working.{topsApart}
+use Rattle.marker.specs.Working.{tops_apart}
 use Rattle.marker.proofs.lanes.tops_apart.Statement.{statement}
 use Rattle.marker.proofs.lanes.tops_apart.Tie as tie
 
@@ -23,7 +23,7 @@ add-result-3 : tie.Need-overflow-add-result-3
 add-result-3 c = search rules
 
 returns : tie.Need-returns
-unfolding topsApart
+unfolding tops_apart
 returns c = refl
 
 pub tops-apart-spec : {M : Type 1} → statement M

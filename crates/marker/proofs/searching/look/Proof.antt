@@ -5,7 +5,7 @@ use types.Run.{OneOf, miss}
 use Rattle.marker.specs.declared.Searched.{Searched}
 use Rattle.marker.specs.declared.Searched.TheVariants.{Spent}
 use Rattle.marker.specs.contracts.Searched.{the_type}
-use Rattle.marker.proofs.Passing.{none-joined, none-spent, more-budget}
+use Rattle.marker.proofs.Passing.{none_joined, none_spent, more_budget}
 use Rattle.marker.proofs.searching.look.Statement.{statement}
 use Rattle.marker.proofs.searching.look.Tie as tie
 
@@ -55,14 +55,14 @@ sub-walk-on c = search rules
 walk-on-requires : tie.Need-walk-on-requires
 walk-on-requires c κs =
     let a = c.before.before.before.before.before.before.before.args in
-    let front = none-spent a.tolerance a.stream.now a.start _ _ c.before.enum_told.given.1 c.before.before.before.walk2.ensures in
+    let front = none_spent a.tolerance a.stream.now a.start _ _ c.before.enum_told.given.1 c.before.before.before.walk2.ensures in
     let whole = c.before.before.before.before.before.whole-octets.ensures in (
       omega arith,
       omega arith,
       omega arith,
       omega (arith, whole.0, c.skipped.ensures.1),
       omega (arith, whole.1, c.skipped.ensures.1),
-      λ p from before. none-joined a.tolerance a.stream.now a.start _ _ (λ m l h. front m l (omega arith)) c.skipped.ensures.2 p from (omega arith),
+      λ p from before. none_joined a.tolerance a.stream.now a.start _ _ (λ m l h. front m l (omega arith)) c.skipped.ensures.2 p from (omega arith),
     )
 
 returns-2 : tie.Need-returns-2
@@ -72,7 +72,7 @@ returns-3 : tie.Need-returns-3
 returns-3 c =
     let a = c.before.before.before.before.before.args in
     let near = c.before.walk2 in
-    more-budget a.tolerance a.stream.now a.start _ a.budget near.result near.ensures (unspent near.result c.match.keys2)
+    more_budget a.tolerance a.stream.now a.start _ a.budget near.result near.ensures (unspent near.result c.match.keys2)
     (omega (arith, c.before.before.before.whole-octets.ensures.0))
 
 pub look_spec : {M : Type 1} → statement M

@@ -1,12 +1,12 @@
 -- `fill_row` adds the low halves to one high half, one after another.
 use Rattle.std.proofs.Common.{◌≡◌, ◌+◌, ◌-◌, ◌*◌, ◌≤◌, length, sym, refl, ◌∙◌, arith, rules}
-use Rattle.marker.specs.Working.{Filled, octetAdds}
-use Rattle.marker.proofs.OctetTable.{octet-most, row-sum, filled-upto, filled-turn}
+use Rattle.marker.specs.Working.{Filled, octet_adds}
+use Rattle.marker.proofs.OctetTable.{octet_most, row-sum, filled_upto, filled_turn}
 use Rattle.marker.proofs.table.fill_row.Statement.{statement}
 use Rattle.marker.proofs.table.fill_row.Tie as tie
 
 abbrev invariant-loop : tie.invariant-loop
-invariant-loop table₀ halves row first high low₀ table low = (low ≤ 16) × (length table ≡ length table₀) × Filled octetAdds 768 table (16 * row + low)
+invariant-loop table₀ halves row first high low₀ table low = (low ≤ 16) × (length table ≡ length table₀) × Filled octet_adds 768 table (16 * row + low)
 
 abbrev decreases-loop : tie.decreases-loop
 decreases-loop table₀ halves row first high low₀ table low = 16 - low
@@ -24,7 +24,7 @@ element-copy-out-high : tie.Need-element-copy-out-high invariant-loop decreases-
 element-copy-out-high c = search rules
 
 loop-holds : tie.Need-loop-init invariant-loop decreases-loop
-loop-holds c = (omega arith, refl, filled-upto _ (omega arith) c.before.requires.2)
+loop-holds c = (omega arith, refl, filled_upto _ (omega arith) c.before.requires.2)
 
 add-table : tie.Need-overflow-add-table invariant-loop decreases-loop
 add-table c = search rules
@@ -42,7 +42,7 @@ add-table-3 : tie.Need-overflow-add-table-3 invariant-loop decreases-loop
 add-table-3 c =
     let given = c.before.before.before.before in
     let low = c.before.before.loop.low in
-    omega (arith, octet-most _ (row-sum given.args.row low (omega arith) (omega arith) given.requires.1))
+    omega (arith, octet_most _ (row-sum given.args.row low (omega arith) (omega arith) given.requires.1))
 
 mul-table-2 : tie.Need-overflow-mul-table-2 invariant-loop decreases-loop
 mul-table-2 c = search rules
@@ -67,14 +67,14 @@ loop-again c =
     let given = c.before.before.before.before in
     let loop = c.before.before.loop in
     let sum = row-sum given.args.row loop.low (omega arith) (omega arith) given.requires.1 in
-    let F = filled-turn _ _ _ _ _ (omega arith) sum loop.invariant.2 in
-    (omega arith, F.size ∙ sym given.requires.2.size, filled-upto _ (omega arith) F)
+    let F = filled_turn _ _ _ _ _ (omega arith) sum loop.invariant.2 in
+    (omega arith, F.size ∙ sym given.requires.2.size, filled_upto _ (omega arith) F)
 
 same_length : tie.Need-same-length invariant-loop decreases-loop
 same_length c = search rules
 
 returns : tie.Need-returns invariant-loop decreases-loop
-returns c = filled-upto _ (omega arith) c.before.loop.invariant.2
+returns c = filled_upto _ (omega arith) c.before.loop.invariant.2
 
 pub fill-row-spec : {M : Type 1} → statement M
 fill-row-spec =

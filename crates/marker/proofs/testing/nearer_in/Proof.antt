@@ -1,7 +1,7 @@
 -- `nearer_in` names the form of its four octets: entered one behind the other they are the 32 bits from place 0 on.
 use Rattle.std.proofs.Common.{◌≡◌, rules}
 use Rattle.marker.specs.Working.{word}
-use Rattle.marker.proofs.Forms.{named-at}
+use Rattle.marker.proofs.Forms.{named_at}
 use Rattle.marker.proofs.Word.{four-octets, word-wrong}
 use Rattle.marker.proofs.testing.nearer_in.Statement.{statement}
 use Rattle.marker.proofs.testing.nearer_in.Tie as tie
@@ -43,7 +43,7 @@ returns c =
     let window : c.before.front-entered4.result ≡ word 32 octets 0 =
     four-octets octets _ _ _ _ (λ i. (known.shared-slice-known.given i).fits) first.front-entered.ensures
     second.front-entered2.ensures third.front-entered3.ensures c.before.front-entered4.ensures in
-    named-at octets 0 (rw window (word-wrong octets 0)) c.nearer-form.ensures
+    named_at octets 0 (rw window (word-wrong octets 0)) c.nearer-form.ensures
 
 pub nearer-in-spec : {M : Type 1} → statement M
 nearer-in-spec =

@@ -1,5 +1,5 @@
 -- `test` meets its outcome: each return cites the law for its branch, with what the checks and `nearer_in` ensure.
-use Rattle.marker.proofs.Tests.{refused-parameters, four-octets-given, refused-wrong, accepted-wrong}
+use Rattle.marker.proofs.Tests.{refused_parameters, four_octets_given, refused_wrong, accepted_wrong}
 use Rattle.std.proofs.Common.{rules}
 use Rattle.marker.proofs.testing.test.Statement.{statement}
 use Rattle.marker.proofs.testing.test.Tie as tie
@@ -11,22 +11,22 @@ enum-known-checked : tie.Need-enum-known-checked
 enum-known-checked c = search rules
 
 returns : tie.Need-returns
-returns c = refused-parameters _ c.before.before.before.marker-parameters.ensures _ c.before.checked.given.1
+returns c = refused_parameters _ c.before.before.before.marker-parameters.ensures _ c.before.checked.given.1
 
 enum_told : tie.Need-enum-told
 enum_told c = search rules
 
 nearer-in-requires : tie.Need-nearer-in-requires
-nearer-in-requires c κs = four-octets-given c.before.before.before.before.args.octets.now c.before.before.marker-parameters.ensures c.enum_told.given.1
+nearer-in-requires c κs = four_octets_given c.before.before.before.before.args.octets.now c.before.before.marker-parameters.ensures c.enum_told.given.1
 
 returns-2 : tie.Need-returns-2
 returns-2 c =
-    refused-wrong _ c.before.before.before.before.marker-parameters.ensures c.before.before.enum_told.given.1
+    refused_wrong _ c.before.before.before.before.marker-parameters.ensures c.before.before.enum_told.given.1
     c.before.nearer-in.ensures c.if1.true
 
 returns-3 : tie.Need-returns-3
 returns-3 c =
-    accepted-wrong _ c.before.before.before.before.marker-parameters.ensures c.before.before.enum_told.given.1
+    accepted_wrong _ c.before.before.before.before.marker-parameters.ensures c.before.before.enum_told.given.1
     c.before.nearer-in.ensures c.if1.false
 
 pub test-spec : {M : Type 1} → statement M

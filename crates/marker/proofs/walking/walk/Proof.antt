@@ -1,7 +1,7 @@
 -- `walk` answers what it saw. Both loops keep `Sofar` before the next bit, i * 8 + b; the measures are the bits and the octets left.
 -- Where the loops are left and nothing was found, by the budget or at the end, `Stopped` holds, from which either answer follows.
 use Rattle.std.proofs.Common.{◌≡◌, ◌+◌, ◌-◌, ◌*◌, ◌<◌, ◌≤◌, length, sym, refl, ◌∙◌, ⊎_elim, arith, rules, leb-false, leb-true}
-use Rattle.marker.proofs.Sofar.{Sofar, Stopped, begins, moved, onward, found, out-of-budget, none-there, ended, spent, absent}
+use Rattle.marker.proofs.Sofar.{Sofar, Stopped, begins, moved, onward, found, out_of_budget, none_there, ended, spent, absent}
 use Rattle.marker.proofs.walking.walk.Statement.{statement}
 use Rattle.marker.proofs.walking.walk.Tie as tie
 
@@ -23,7 +23,7 @@ add-first : tie.Need-overflow-add-first invariant-loop decreases-loop invariant-
 add-first c = search rules
 
 returns : tie.Need-returns invariant-loop decreases-loop invariant-octets decreases-octets
-returns c = none-there (omega arith)
+returns c = none_there (omega arith)
 
 window-before-requires : tie.Need-window-before-requires invariant-loop decreases-loop invariant-octets decreases-octets
 window-before-requires c κs = search rules
@@ -102,7 +102,7 @@ StoppedAt c =
 stopped : (c : tie.Left-octets invariant-loop decreases-loop invariant-octets decreases-octets) → StoppedAt c
 stopped c =
     ⊎_elim (λ w. rw w.2 (ended (moved (omega arith) c.before.octets.invariant.4)))
-    (λ w. rw w.7 (out-of-budget _ _ w.2.taken w.1.inv.3 (omega arith) w.5.taken))
+    (λ w. rw w.7 (out_of_budget _ _ w.2.taken w.1.inv.3 (omega arith) w.5.taken))
     c.octets-test.branch
 
 add-next : tie.Need-overflow-add-next invariant-loop decreases-loop invariant-octets decreases-octets

@@ -1,7 +1,7 @@
 -- `window_before` holds what has entered: octets, and then the first bits of the next one.
 use Rattle.std.proofs.Common.{◌≡◌, ◌+◌, ◌-◌, ◌*◌, ◌/◌, ◌%◌, ◌≤◌, arith, rules}
 use Rattle.marker.specs.Working.{Carried}
-use Rattle.marker.proofs.Sofar.{none-entered, front-entered, moved_on}
+use Rattle.marker.proofs.Sofar.{none_entered, front-entered, moved_on}
 use Rattle.marker.proofs.walking.window_before.Statement.{statement}
 use Rattle.marker.proofs.walking.window_before.Tie as tie
 
@@ -15,7 +15,7 @@ add-end : tie.Need-overflow-add-end invariant-loop decreases-loop
 add-end c = search rules
 
 loop-holds : tie.Need-loop-init invariant-loop decreases-loop
-loop-holds c = (omega arith, omega arith, omega arith, none-entered _ _)
+loop-holds c = (omega arith, omega arith, omega arith, none_entered _ _)
 
 shared-slice-read-front-entered : tie.Need-shared-slice-read-front-entered invariant-loop decreases-loop
 shared-slice-read-front-entered c = search rules

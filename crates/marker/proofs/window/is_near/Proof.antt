@@ -2,7 +2,7 @@
 use Rattle.std.proofs.Common.{arith, rules}
 use lib.Bits.{xor_lt}
 use lib.Count.{ones-le}
-use Rattle.marker.proofs.Forms.{near-wrapped}
+use Rattle.marker.proofs.Forms.{near_wrapped}
 use Rattle.marker.proofs.window.is_near.Statement.{statement}
 use Rattle.marker.proofs.window.is_near.Tie as tie
 
@@ -26,7 +26,7 @@ returns c =
     let window = c.before.before.args.window in
     let count = c.before.wrong-bits in
     rw (← count.ensures)
-    (near-wrapped count.result c.before.before.args.tolerance c.wrapping-sub-u32.result
+    (near_wrapped count.result c.before.before.args.tolerance c.wrapping-sub-u32.result
     (omega (arith, count.ensures, ones-le 32 _ (xor_lt 32 window 0x1ACFFC1D (omega arith) (omega arith)))) (omega arith) (omega arith) c.wrapping-sub-u32.ensures)
 
 pub is-near-spec : {M : Type 1} → statement M

@@ -4,21 +4,21 @@ use Prim.Native.Nat.{◌≤◌, ◌-◌}
 use native.Mathlib.Omega.{arith}
 use lib.ListN.{length, length-set}
 use borrow.Author.Rules.{rules}
-use Rattle.randomiser.specs.Sequence.{sequenceOctet, eightOn}
-use Rattle.randomiser.proofs.Registers.{sequence-starts, sequence-goes-on}
-use Rattle.randomiser.proofs.Turns.{front, front-starts, front-turn, front-all}
+use Rattle.randomiser.specs.Sequence.{sequence_octet, eight_on}
+use Rattle.randomiser.proofs.Registers.{sequence_starts, sequence_goes_on}
+use Rattle.randomiser.proofs.Turns.{front, front_starts, front_turn, front_all}
 use Rattle.randomiser.proofs.blocks.add_sequence.Statement.{statement}
 use Rattle.randomiser.proofs.blocks.add_sequence.Tie as tie
 
 abbrev invariant-loop : tie.invariant-loop
 invariant-loop block₀ register₀ len i₀ block register i =
-    (i ≤ len) × (len ≡ length block₀) × (length block ≡ length block₀) × (register.bits ≡ sequenceOctet i) × (block ≡ front 0 i block₀)
+    (i ≤ len) × (len ≡ length block₀) × (length block ≡ length block₀) × (register.bits ≡ sequence_octet i) × (block ≡ front 0 i block₀)
 
 abbrev decreases-loop : tie.decreases-loop
 decreases-loop block₀ register₀ len i₀ block register i = len - i
 
 loop-holds : tie.Need-loop-init invariant-loop decreases-loop
-loop-holds c = (omega arith, refl, refl, sequence-starts, front-starts _)
+loop-holds c = (omega arith, refl, refl, sequence_starts, front_starts _)
 
 next-bits-requires : tie.Need-next-bits-requires invariant-loop decreases-loop
 next-bits-requires c κs = search rules
@@ -40,15 +40,15 @@ loop-again c = (
   omega arith,
   refl,
   simp length-set c.before.before.before.before.loop.invariant.2,
-  c.before.next-bits.ensures.left ∙ ap eightOn c.before.before.before.before.loop.invariant.3 ∙ sym (sequence-goes-on c.before.before.before.before.loop.i),
-  front-turn c.before.before.before.before.loop.i _ c.before.before.before.before.loop.block _ _ (omega arith) c.before.before.before.before.loop.invariant.4 c.before.before.before.before.loop.invariant.3 c.before.next-bits.ensures.given,
+  c.before.next-bits.ensures.left ∙ ap eight_on c.before.before.before.before.loop.invariant.3 ∙ sym (sequence_goes_on c.before.before.before.before.loop.i),
+  front_turn c.before.before.before.before.loop.i _ c.before.before.before.before.loop.block _ _ (omega arith) c.before.before.before.before.loop.invariant.4 c.before.before.before.before.loop.invariant.3 c.before.next-bits.ensures.given,
 )
 
 same_length : tie.Need-same-length invariant-loop decreases-loop
 same_length c = search rules
 
 returns : tie.Need-returns invariant-loop decreases-loop
-returns c = c.before.loop.invariant.4 ∙ front-all 0 c.before.loop.i _ (omega arith)
+returns c = c.before.loop.invariant.4 ∙ front_all 0 c.before.loop.i _ (omega arith)
 
 pub add-sequence-spec : {M : Type 1} → statement M
 add-sequence-spec =

@@ -1,8 +1,8 @@
 -- `randomise` refuses before it touches the block, or adds the sequence.
 use borrow.Author.Rules.{rules}
 use mathlib.Core.Path.{refl}
-use Rattle.refusals.specs.Calls.{randomiseOrder}
-use Rattle.refusals.proofs.Verdicts.{same-verdict, parameter-nonzero}
+use Rattle.refusals.specs.Calls.{randomise_order}
+use Rattle.refusals.proofs.Verdicts.{same_verdict, parameter_nonzero}
 use Rattle.randomiser.proofs.blocks.randomise.Statement.{statement}
 use Rattle.randomiser.proofs.blocks.randomise.Tie as tie
 
@@ -15,9 +15,9 @@ enum-known-verdict c = search rules
 returns : tie.Need-returns
 returns c =
     record {
-      number = same-verdict (randomiseOrder _) _ _ c.before.verdict.given.1 c.before.before.before.randomise-parameters.ensures;
+      number = same_verdict (randomise_order _) _ _ c.before.verdict.given.1 c.before.before.before.randomise-parameters.ensures;
       refused = λ n. refl;
-      accepted = λ z. absurd (parameter-nonzero c.before.verdict.given.0.0 z);
+      accepted = λ z. absurd (parameter_nonzero c.before.verdict.given.0.0 z);
     }
 
 enum_told : tie.Need-enum-told
@@ -32,7 +32,7 @@ same_length c = search rules
 returns-2 : tie.Need-returns-2
 returns-2 c =
     record {
-      number = same-verdict (randomiseOrder _) _ _ c.before.before.before.before.enum_told.given.1
+      number = same_verdict (randomise_order _) _ _ c.before.before.before.before.enum_told.given.1
           c.before.before.before.before.before.before.randomise-parameters.ensures;
       refused = λ n. absurd (n refl);
       accepted = λ z. c.before.before.add-sequence.ensures;

@@ -37,7 +37,7 @@ use denote.Triple.Spec.{Meets, triple_of}
 use denote.Triple.Table.{entered, cited}
 use denote.Triple.Walked.{says, Stays, stay_ref, walk_of, AllGo, Goes-ref, Walks, ends_at, walked, walk_Meets}
 use denote.Triple.Clauses.{ensured, lasts}
-use Rattle.randomiser.specs.Sequence.{eightOn}
+use Rattle.randomiser.specs.Sequence.{eight_on}
 use Rattle.randomiser.specs.declared.sequence.Register.{Register}
 use Rattle.randomiser.specs.contracts.sequence.Register as T
 use Rattle.randomiser.proofs.sequence.Register.TheLaws as T'
@@ -61,8 +61,8 @@ module _ {M : Type 1} {𝓤 : Ura M} (𝓛 : Logic 𝓤) (mem : Memory → SProp
   abbrev Step : Contract 𝓤
   Step = triple_of 𝓛 step.signature (step.spec 𝓛 mem run)
 
-  stepped-of : (n r : ℕ) → ent 𝓤 (ensured 𝓛 step.ended (step.clauses 𝓛 mem run) tt (n, tt) tt r) (fact 𝓤 (r ≡ eightOn n))
-  stepped-of n r = ex_e 𝓤 _ (λ ws. snd∗ 𝓤 (sem 𝓛 (lasts step.ended tt (n, tt) ws)) (fact 𝓤 (r ≡ eightOn n)))
+  stepped-of : (n r : ℕ) → ent 𝓤 (ensured 𝓛 step.ended (step.clauses 𝓛 mem run) tt (n, tt) tt r) (fact 𝓤 (r ≡ eight_on n))
+  stepped-of n r = ex_e 𝓤 _ (λ ws. snd∗ 𝓤 (sem 𝓛 (lasts step.ended tt (n, tt) ws)) (fact 𝓤 (r ≡ eight_on n)))
 
 module _ {M : Type 1} {𝓤 : Ura M} (𝓛 : Logic 𝓤) (at_mem : Memory → SProp 𝓤) (run : Routine → Fun 𝓤) (κ : Lft) (q : Share) (b o : ℕ) (γ : GName) (h : Register) where
   open 𝓛 use {H, A}
@@ -89,7 +89,7 @@ module _ {M : Type 1} {𝓤 : Ura M} (𝓛 : Logic 𝓤) (at_mem : Memory → SP
   abbrev Post : Val → SProp 𝓤
   Post = (walk_of 𝓛 next.ended stayed (next.clauses 𝓛 at_mem run)).post (((κ, tt), (q, tt), tt, x, at), tt)
 
-  exits : (m : ℕ) → n < 2 ^ 8 → m ≡ eightOn n → ent 𝓤 (sep 𝓤 (A.obs γ ((T.the_row).coded.code (h' m))) (sep 𝓤 (A.bor κ (Body (mem (T.the_row)) b o γ)) (A.lft κ q))) (Post (vint w8 n))
+  exits : (m : ℕ) → n < 2 ^ 8 → m ≡ eight_on n → ent 𝓤 (sep 𝓤 (A.obs γ ((T.the_row).coded.code (h' m))) (sep 𝓤 (A.bor κ (Body (mem (T.the_row)) b o γ)) (A.lft κ q))) (Post (vint w8 n))
   exits m fits e =
       qed 𝓛 (‵ (fobs γ ((T.the_row).coded.code (h' m))) ∷ ‵ (fbor κ (Body (mem (T.the_row)) b o γ)) ∷ ‵ (flft κ q) ∷ []) ∵
       suffices ! _ (ends_at 𝓛 next.ended stayed (next.clauses 𝓛 at_mem run) (((κ, tt), (q, tt), tt, x, at), tt) (vint w8 n) n (h' m, tt) (tt, tt)) $ says ! (record { given = refl; left = e }) $ nothing ! $ move ! (3 ∷ 0 ∷ []) $ join ! $
@@ -116,7 +116,7 @@ module _ {M : Type 1} {𝓤 : Ura M} (𝓛 : Logic 𝓤) (at_mem : Memory → SP
         owned ! u8 (Is u8) (uint_Makes 𝓛 w8) n _ (refl, g.1.1.0.1) $ use1 𝓛 (raw ((Step 𝓛 at_mem run).pre to_step)) goes_step $
         calls_at ! fm (Step 𝓛 at_mem run) known to_step (and_then ! (load ! (from ! (stop !)) (look ! 8 refl)) (no_more !)) (λ v.
         use1 𝓛 (later (some (λ (r : ℕ). (‵ ftrue ⊛ ‵ (u8.own_val r (v ∷ []))) ⊛ raw (ensured 𝓛 step.ended (step.clauses 𝓛 at_mem run) tt (n, tt) tt r)))) (id⊢ 𝓤 _) $ await ! tt $ pick ! (λ r.
-        split ! $ move ! (1 ∷ []) $ use1 𝓛 (raw (fact 𝓤 (r ≡ eightOn n))) (stepped-of 𝓛 at_mem run n r) $ heard ! (r ≡ eightOn n) (λ e. split ! $ drop ! $
+        split ! $ move ! (1 ∷ []) $ use1 𝓛 (raw (fact 𝓤 (r ≡ eight_on n))) (stepped-of 𝓛 at_mem run n r) $ heard ! (r ≡ eight_on n) (λ e. split ! $ drop ! $
         peeks ! u8 (Is u8) (shows 𝓛 u8) r (v ∷ []) (λ is.
         -- [what the result owns; the struct's cell; what a Register owns; the open borrow; obs; auth; _3; …; _2; …; _1; …; room for _0; …]
         land ! (from ! (stop !)) (init ! 6 refl ((uint_Lawful 𝓛 w8).typed r _ is).0) $ rewrite ! 6 (λ (u : Val). ‵ (fat full_share (ty_int w8) l₃ 0 u)) (ap only is.0) refl $ drop ! $

@@ -7,28 +7,28 @@ use lib.ListN.{length}
 use lib.Seq.{length-take-le}
 use Rattle.refusals.proofs.Verdicts.{passed}
 use Rattle.refusals.specs.Order.{FirstOf}
-use Rattle.refusals.specs.Calls.{decodeParameters}
-use Rattle.encoding.proofs.CodedBlocks.{octets-known}
-use Rattle.reed_solomon.proofs.Deliveries.{fitting, coded-room, enter-legal, checks-of-words, refuses-parameter, refuses-word, lowest-lost, frame-within, all-good, delivers, delivers-coded}
+use Rattle.refusals.specs.Calls.{decode_parameters}
+use Rattle.encoding.proofs.CodedBlocks.{octets_known}
+use Rattle.reed_solomon.proofs.Deliveries.{fitting, coded_room, enter_legal, checks_of_words, refuses_parameter, refuses_word, lowest_lost, frame_within, all_good, delivers, delivers_coded}
 use Rattle.reed_solomon.proofs.decoder.decode.Statement.{statement}
 use Rattle.reed_solomon.proofs.decoder.decode.Tie as tie
 
 -- refused for a parameter
 returns : tie.Need-returns
 returns c =
-    refuses-parameter _ _ _ _ _ _ _ _ _ _ _ _ c.before.before.verdict.given.1 c.before.before.before.before.decode-parameters.ensures c.refused.ensures refl
+    refuses_parameter _ _ _ _ _ _ _ _ _ _ _ _ c.before.before.verdict.given.1 c.before.before.before.before.decode-parameters.ensures c.refused.ensures refl
 
 -- delivered as it stands
 returns-2 : tie.Need-returns-2
-returns-2 c = delivers-coded _ _ _ _ _ _ (search passed) (search octets-known) _ c.before.before.before.before.before.before.before.before.front-rows.ensures (c.before.before.before.before.before.before.before.has-checks.ensures c.before.before.before.before.before.before.if1.true) _ _ _ _ c.as-received.ensures c.before.before.before.copy-front.ensures
+returns-2 c = delivers_coded _ _ _ _ _ _ (search passed) (search octets_known) _ c.before.before.before.before.before.before.before.before.front-rows.ensures (c.before.before.before.before.before.before.before.has-checks.ensures c.before.before.before.before.before.before.if1.true) _ _ _ _ c.as-received.ensures c.before.before.before.copy-front.ensures
 
 -- refused for the lowest word that is lost
 returns-3 : tie.Need-returns-3
-returns-3 c = refuses-word _ _ _ _ _ _ (search passed) _ _ _ _ _ c.refused2.ensures refl (search lowest-lost)
+returns-3 c = refuses_word _ _ _ _ _ _ (search passed) _ _ _ _ _ c.refused2.ensures refl (search lowest_lost)
 
 -- delivered
 returns-4 : tie.Need-returns-4
-returns-4 c = delivers _ _ _ _ _ _ (search passed) _ _ _ (search all-good) (search) (search)
+returns-4 c = delivers _ _ _ _ _ _ (search passed) _ _ _ (search all_good) (search) (search)
 
 decode-parameters-requires : tie.Need-decode-parameters-requires
 decode-parameters-requires c κs = search rules
@@ -43,17 +43,17 @@ enum_told : tie.Need-enum-told
 enum_told c = search rules
 
 -- every check of a parameter has passed
-legal : (c : tie.After-enum-told) → let start = c.before.before.before.before.before in FirstOf (decodeParameters start.args.e start.args.depth start.args.fill start.args.s (length start.args.block.now) (length start.args.frame.now)) 0
+legal : (c : tie.After-enum-told) → let start = c.before.before.before.before.before in FirstOf (decode_parameters start.args.e start.args.depth start.args.fill start.args.s (length start.args.block.now) (length start.args.frame.now)) 0
 legal c = search passed
 
 front-rows-requires : tie.Need-front-rows-requires
-front-rows-requires c κs = let L = enter-legal _ _ _ _ _ _ (legal c) in (L.0, L.1, L.2, (coded-room _ _ _ _ _ _ (legal c)).2)
+front-rows-requires c κs = let L = enter_legal _ _ _ _ _ _ (legal c) in (L.0, L.1, L.2, (coded_room _ _ _ _ _ _ (legal c)).2)
 
 has-checks-requires : tie.Need-has-checks-requires
-has-checks-requires c κs = coded-room _ _ _ _ _ _ (legal c.before)
+has-checks-requires c κs = coded_room _ _ _ _ _ _ (legal c.before)
 
 slice-aggregate-copy-front : tie.Need-slice-aggregate-copy-front
-slice-aggregate-copy-front c = sym (length-take-le _ _ (coded-room _ _ _ _ _ _ (legal c.before.before.before.before)).2)
+slice-aggregate-copy-front c = sym (length-take-le _ _ (coded_room _ _ _ _ _ _ (legal c.before.before.before.before)).2)
 
 copy-front-requires : tie.Need-copy-front-requires
 copy-front-requires c κs = search rules
@@ -73,7 +73,7 @@ repair-words-requires c κs =
     let start = c.before.before.before.before.before.before.before.before.before in (
       fitting _ _ _ _ _ (length start.args.frame.now) passing,
       omega arith,
-      checks-of-words _ _ _ _ _ start.args.frame.now _ passing (search octets-known) c.before.before.before.front-rows.ensures,
+      checks_of_words _ _ _ _ _ start.args.frame.now _ passing (search octets_known) c.before.before.before.front-rows.ensures,
     )
 
 cast-t28 : tie.Need-overflow-cast-t28
@@ -83,10 +83,10 @@ refused-requires-2 : tie.Need-refused-requires-2
 refused-requires-2 c κs = search rules
 
 array-share-prefix-repaired : tie.Need-array-share-prefix-repaired
-array-share-prefix-repaired c = search (frame-within, passed)
+array-share-prefix-repaired c = search (frame_within, passed)
 
 slice-aggregate-copy-front-2 : tie.Need-slice-aggregate-copy-front-2
-slice-aggregate-copy-front-2 c = sym (length-take-le _ _ (search (frame-within, passed)))
+slice-aggregate-copy-front-2 c = sym (length-take-le _ _ (search (frame_within, passed)))
 
 copy-front-requires-2 : tie.Need-copy-front-requires-2
 copy-front-requires-2 c κs = search rules

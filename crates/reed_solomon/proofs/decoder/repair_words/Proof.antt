@@ -5,9 +5,9 @@ use Prim.Native.Nat.{◌≤◌, ◌-◌, ◌*◌}
 use native.Mathlib.Omega.{arith}
 use lib.ListN.{length}
 use borrow.Author.Tests.{not-true, not-false}
-use Rattle.refusals.proofs.Legal.{strength-bounds}
+use Rattle.refusals.proofs.Legal.{strength_bounds}
 use Rattle.reed_solomon.specs.DecoderWorking.{Sofar}
-use Rattle.reed_solomon.proofs.WordRepairs.{sofar-starts, sofar-stops, sofar-turn, few-differ}
+use Rattle.reed_solomon.proofs.WordRepairs.{sofar_starts, sofar_stops, sofar_turn, few_differ}
 use Rattle.reed_solomon.proofs.decoder.repair_words.Statement.{statement}
 use Rattle.reed_solomon.proofs.decoder.repair_words.Tie as tie
 
@@ -19,7 +19,7 @@ abbrev decreases-loop : tie.decreases-loop
 decreases-loop e depth fill s block frame₀ rows counts₀ total₀ w₀ frame counts total w = depth - w
 
 loop-holds : tie.Need-loop-init invariant-loop decreases-loop
-loop-holds c = (omega arith, refl, sofar-starts _ _ _ _ _ _, omega arith)
+loop-holds c = (omega arith, refl, sofar_starts _ _ _ _ _ _, omega arith)
 
 mul-row : tie.Need-overflow-mul-row invariant-loop decreases-loop
 mul-row c = search rules
@@ -42,8 +42,8 @@ returns c =
     let word = c.before.before.before.repair-word in
     record {
       reached = at.invariant.0;
-      sofar = sofar-stops start.args.e start.args.depth start.args.fill start.args.s start.args.block.now at.frame at.counts at.total at.w word.result.found word.result.count _ (omega arith) at.invariant.2 word.ensures;
-      stopped = λ h. word.ensures.whenNot (not-true _ c.if1.true);
+      sofar = sofar_stops start.args.e start.args.depth start.args.fill start.args.s start.args.block.now at.frame at.counts at.total at.w word.result.found word.result.count _ (omega arith) at.invariant.2 word.ensures;
+      stopped = λ h. word.ensures.when_not (not-true _ c.if1.true);
       size = word.ensures.size ∙ at.invariant.1;
     }
 
@@ -55,9 +55,9 @@ few c =
     let word = c.before.before.before.repair-word in
     omega (
       arith,
-      few-differ start.args.e start.args.depth start.args.fill start.args.s start.args.block.now at.w _ word.result.count (word.ensures.whenFound (not-false _ c.if1.false)),
+      few_differ start.args.e start.args.depth start.args.fill start.args.s start.args.block.now at.w _ word.result.count (word.ensures.when_found (not-false _ c.if1.false)),
       start.requires.0.allowance,
-      (strength-bounds _ start.requires.0.strength).1,
+      (strength_bounds _ start.requires.0.strength).1,
     )
 
 cast-counts : tie.Need-overflow-cast-counts invariant-loop decreases-loop
@@ -82,7 +82,7 @@ loop-again c =
     let word = c.before.before.before.repair-word in (
       omega arith,
       word.ensures.size ∙ at.invariant.1,
-      sofar-turn start.args.e start.args.depth start.args.fill start.args.s start.args.block.now at.frame at.counts at.total at.w word.result.found word.result.count _ (omega arith) at.invariant.2 word.ensures start.requires.0.deep (not-false _ c.if1.false),
+      sofar_turn start.args.e start.args.depth start.args.fill start.args.s start.args.block.now at.frame at.counts at.total at.w word.result.found word.result.count _ (omega arith) at.invariant.2 word.ensures start.requires.0.deep (not-false _ c.if1.false),
       omega (arith, few c),
     )
 

@@ -3,8 +3,8 @@ use borrow.Author.Rules.{rules}
 use mathlib.Core.Path.{sym}
 use native.Mathlib.Omega.{arith}
 use lib.Seq.{length-take-le}
-use Rattle.refusals.proofs.Legal.{strength-bounds}
-use Rattle.reed_solomon.proofs.WordRepairs.{word-outcome}
+use Rattle.refusals.proofs.Legal.{strength_bounds}
+use Rattle.reed_solomon.proofs.WordRepairs.{word_outcome}
 use Rattle.reed_solomon.proofs.finding.word_errors.Statement.{statement}
 use Rattle.reed_solomon.proofs.finding.word_errors.Tie as tie
 
@@ -12,16 +12,16 @@ sub-n : tie.Need-overflow-sub-n
 sub-n c = search rules
 
 mul-first : tie.Need-overflow-mul-first
-mul-first c = omega (arith, (strength-bounds _ c.before.requires.0.strength).1)
+mul-first c = omega (arith, (strength_bounds _ c.before.requires.0.strength).1)
 
 sub-first : tie.Need-overflow-sub-first
-sub-first c = omega (arith, (strength-bounds _ c.before.requires.0.strength).1, c.before.requires.0.filled)
+sub-first c = omega (arith, (strength_bounds _ c.before.requires.0.strength).1, c.before.requires.0.filled)
 
 difference-requires : tie.Need-difference-requires
 difference-requires c κs = (
   omega arith,
   omega arith,
-  omega (arith, (strength-bounds _ c.before.requires.0.strength).1),
+  omega (arith, (strength_bounds _ c.before.requires.0.strength).1),
   c.before.requires.0.deep,
   c.before.requires.1,
   omega (arith, c.before.requires.0.received),
@@ -39,7 +39,7 @@ find-errors-requires c κs = search rules
 returns : tie.Need-returns
 returns c =
     let start = c.before.before.before.before in
-    word-outcome start.args.e start.args.depth start.args.fill start.args.s start.args.block.now start.args.w start.requires.0 _ _ start.requires.2 c.before.before.difference.ensures
+    word_outcome start.args.e start.args.depth start.args.fill start.args.s start.args.block.now start.args.w start.requires.0 _ _ start.requires.2 c.before.before.difference.ensures
     c.find-errors.result.found c.find-errors.result.count c.find-errors.result.errors c.find-errors.ensures
 
 pub word-errors-spec : {M : Type 1} → statement M

@@ -2,16 +2,16 @@
 use mathlib.Core.Path.{refl}
 use native.Mathlib.Omega.{arith}
 use lib.ListN.{length-set}
-use Rattle.reed_solomon.proofs.ChangeLists.{change-absent, change-put}
+use Rattle.reed_solomon.proofs.ChangeLists.{change_absent, change_put}
 use borrow.Author.Rules.{rules}
 use Rattle.reed_solomon.proofs.listing.put_change.Statement.{statement}
 use Rattle.reed_solomon.proofs.listing.put_change.Tie as tie
 
 returns : tie.Need-returns
-returns c = let start = c.before in change-absent start.args.at start.args.old start.args.new start.args.entries start.args.list.now c.if1.true
+returns c = let start = c.before in change_absent start.args.at start.args.old start.args.new start.args.entries start.args.list.now c.if1.true
 
 returns-2 : tie.Need-returns-2
-returns-2 c = let start = c.before in change-put start.args.at start.args.old start.args.new start.args.entries start.args.list.now c.if1.false (omega arith) _ refl
+returns-2 c = let start = c.before in change_put start.args.at start.args.old start.args.new start.args.entries start.args.list.now c.if1.false (omega arith) _ refl
 
 mul-first : tie.Need-overflow-mul-first
 mul-first c = search rules

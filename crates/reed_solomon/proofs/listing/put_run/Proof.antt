@@ -5,7 +5,7 @@ use Prim.Native.Nat.{ℕ, ◌-◌, ◌≤◌}
 use native.Mathlib.Omega.{arith}
 use lib.ListN.{length, get_or}
 use Rattle.reed_solomon.specs.SalvageWorking.{Listed}
-use Rattle.reed_solomon.proofs.ChangeLists.{change-most, listed-turn, listed-over}
+use Rattle.reed_solomon.proofs.ChangeLists.{change_most, listed_turn, listed_over}
 use borrow.Author.Rules.{rules}
 use Rattle.reed_solomon.proofs.listing.put_run.Statement.{statement}
 use Rattle.reed_solomon.proofs.listing.put_run.Tie as tie
@@ -25,9 +25,9 @@ loop-again c =
     let put = c.before.before.put-change in (
       omega (arith, turn.invariant.0),
       omega arith,
-      omega (arith, turn.invariant.2, put.ensures.entered, change-most turn.at (get_or start.args.block.now turn.at 0) (get_or start.args.mended.now turn.at 0)),
+      omega (arith, turn.invariant.2, put.ensures.entered, change_most turn.at (get_or start.args.block.now turn.at 0) (get_or start.args.mended.now turn.at 0)),
       put.ensures.size ∙ turn.invariant.3,
-      λ before L. listed-turn start.args.block.now start.args.mended.now before start.requires.3 turn.at turn.listed turn.list put.result _
+      λ before L. listed_turn start.args.block.now start.args.mended.now before start.requires.3 turn.at turn.listed turn.list put.result _
           (omega (arith, start.requires.1)) put.ensures (turn.invariant.4 before L),
     )
 
@@ -37,7 +37,7 @@ run-alike-requires c κs = let start = c.before.before.before in (start.requires
 returns : tie.Need-returns invariant-loop decreases-loop
 returns c =
     let start = c.before.before.before.before.before in
-    λ before L. listed-over start.args.block.now start.args.mended.now before start.requires.3 start.args.from start.args.end start.args.entries start.args.list.now
+    λ before L. listed_over start.args.block.now start.args.mended.now before start.requires.3 start.args.from start.args.end start.args.entries start.args.list.now
     start.requires.0 start.requires.1 (c.before.run-alike.ensures c.if1.true) L
 
 loop-holds : tie.Need-loop-init invariant-loop decreases-loop

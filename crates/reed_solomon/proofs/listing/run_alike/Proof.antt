@@ -5,7 +5,7 @@ use mathlib.Core.Logic.{⊎_elim}
 use Prim.Native.Nat.{ℕ, ◌-◌, ◌+◌, ◌≤◌}
 use native.Mathlib.Omega.{arith}
 use Rattle.reed_solomon.specs.SalvageWorking.{Alike}
-use Rattle.reed_solomon.proofs.ChangeLists.{alike-turn}
+use Rattle.reed_solomon.proofs.ChangeLists.{alike_turn}
 use borrow.Author.Rules.{rules}
 use Rattle.reed_solomon.proofs.listing.run_alike.Statement.{statement}
 use Rattle.reed_solomon.proofs.listing.run_alike.Tie as tie
@@ -51,7 +51,7 @@ loop-again c =
       omega arith,
       turn.invariant.1,
       λ y. ⊎_elim (λ differ. let was = differ.1 in let z : ◌≡◌ {A = ℕ} 0 1 = cc in absurd (omega arith))
-          (λ same. alike-turn start.args.block.now start.args.mended.now start.args.from turn.k (turn.invariant.2 (sym same.1 ∙ y)) same.0.left) c.if2.branch,
+          (λ same. alike_turn start.args.block.now start.args.mended.now start.args.from turn.k (turn.invariant.2 (sym same.1 ∙ y)) same.0.left) c.if2.branch,
     )
 
 returns-2 : tie.Need-returns-2 invariant-loop decreases-loop

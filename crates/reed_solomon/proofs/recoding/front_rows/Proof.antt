@@ -13,7 +13,7 @@ rows-entered-requires : tie.Need-rows-entered-requires
 rows-entered-requires c κs = search rules
 
 returns : tie.Need-returns
-returns c = c.rows-entered.ensures.whenMay (record { strength = c.before.before.before.requires.0; within = c.before.before.before.requires.1; deep = c.before.before.before.requires.2 })
+returns c = c.rows-entered.ensures.when_may (record { strength = c.before.before.before.requires.0; within = c.before.before.before.requires.1; deep = c.before.before.before.requires.2 })
 
 pub front-rows-spec : {M : Type 1} → statement M
 front-rows-spec = tie.close (tie.spec slice-aggregate-rows-entered rows-entered-requires returns)

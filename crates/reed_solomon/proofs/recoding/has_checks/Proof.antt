@@ -3,7 +3,7 @@ use mathlib.Core.Path.{◌≡◌}
 use Prim.Native.Nat.{ℕ, ◌≤◌, ◌-◌}
 use native.Mathlib.Omega.{arith}
 use borrow.Author.Tests.{not-false}
-use Rattle.reed_solomon.proofs.StandingChecks.{Seen, seen-turn, seen-ends}
+use Rattle.reed_solomon.proofs.StandingChecks.{Seen, seen_turn, seen_ends}
 use borrow.Author.Rules.{rules}
 use Rattle.reed_solomon.proofs.recoding.has_checks.Statement.{statement}
 use Rattle.reed_solomon.proofs.recoding.has_checks.Tie as tie
@@ -41,11 +41,11 @@ loop-less c = search rules
 loop-again : tie.Need-loop-preserved invariant-loop decreases-loop
 loop-again c = (
   omega arith,
-  seen-turn c.before.before.before.before.before.before.args.t1 _ _ c.before.before.before.before.before.before.args.block.now c.before.before.before.before.loop.w (c.before.row-stands.ensures (not-false _ c.if1.false)) c.before.before.before.before.loop.invariant.1,
+  seen_turn c.before.before.before.before.before.before.args.t1 _ _ c.before.before.before.before.before.before.args.block.now c.before.before.before.before.loop.w (c.before.row-stands.ensures (not-false _ c.if1.false)) c.before.before.before.before.loop.invariant.1,
 )
 
 returns-2 : tie.Need-returns-2 invariant-loop decreases-loop
-returns-2 c = λ e. seen-ends c.before.before.before.args.t1 _ _ c.before.before.before.args.block.now c.before.loop.w (omega arith) c.before.loop.invariant.1
+returns-2 c = λ e. seen_ends c.before.before.before.args.t1 _ _ c.before.before.before.args.block.now c.before.loop.w (omega arith) c.before.loop.invariant.1
 
 pub has-checks-spec : {M : Type 1} → statement M
 has-checks-spec =

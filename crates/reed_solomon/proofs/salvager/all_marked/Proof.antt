@@ -3,7 +3,7 @@ use mathlib.Core.Path.{◌≡◌}
 use Prim.Native.Nat.{◌-◌, ◌≤◌}
 use native.Mathlib.Omega.{arith}
 use Rattle.reed_solomon.specs.SalvageWorking.{MarksSet}
-use Rattle.reed_solomon.proofs.SalvagedWords.{marks-start, marks-turn}
+use Rattle.reed_solomon.proofs.SalvagedWords.{marks_start, marks_turn}
 use borrow.Author.Rules.{rules}
 use Rattle.reed_solomon.proofs.salvager.all_marked.Statement.{statement}
 use Rattle.reed_solomon.proofs.salvager.all_marked.Tie as tie
@@ -16,7 +16,7 @@ abbrev decreases-loop : tie.decreases-loop
 decreases-loop depth marks₀ w₀ marks w = depth - w
 
 loop-holds : tie.Need-loop-init invariant-loop decreases-loop
-loop-holds c = (omega arith, marks-start)
+loop-holds c = (omega arith, marks_start)
 
 array-write-marks : tie.Need-array-write-marks invariant-loop decreases-loop
 array-write-marks c = omega (arith, c.before.loop.invariant.1.size)
@@ -28,7 +28,7 @@ loop-less : tie.Need-loop-smaller invariant-loop decreases-loop
 loop-less c = search rules
 
 loop-again : tie.Need-loop-preserved invariant-loop decreases-loop
-loop-again c = (omega arith, marks-turn _ _ (omega arith) c.before.loop.invariant.1)
+loop-again c = (omega arith, marks_turn _ _ (omega arith) c.before.loop.invariant.1)
 
 returns : tie.Need-returns invariant-loop decreases-loop
 returns c = let all : c.before.loop.w ≡ c.before.before.args.depth = omega arith in rw all at c.before.loop.invariant.1

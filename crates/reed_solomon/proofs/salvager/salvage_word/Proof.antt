@@ -1,7 +1,7 @@
 -- `salvage_word`: the word's errors are looked for, and all its symbols are put, with their errors added, into their places.
 use native.Mathlib.Omega.{arith}
-use Rattle.reed_solomon.proofs.WordRepairs.{symbols-room, symbols-sent}
-use Rattle.reed_solomon.proofs.SalvagedWords.{few-found, word-mended, word_kept}
+use Rattle.reed_solomon.proofs.WordRepairs.{symbols_room, symbols-sent}
+use Rattle.reed_solomon.proofs.SalvagedWords.{few_found, word_mended, word_kept}
 use borrow.Author.Rules.{rules}
 use Rattle.reed_solomon.proofs.salvager.salvage_word.Statement.{statement}
 use Rattle.reed_solomon.proofs.salvager.salvage_word.Tie as tie
@@ -17,7 +17,7 @@ returns-2 : tie.Need-returns-2
 returns-2 c =
     let start = c.before.before.before.before.before.before.before.before.before.before in
     let answer = c.before.before.before.before.before.before.before.word-errors in
-    word-mended start.args.e start.args.depth start.args.fill start.args.s start.args.block.now start.args.w start.requires.0
+    word_mended start.args.e start.args.depth start.args.fill start.args.s start.args.block.now start.args.w start.requires.0
     answer.result.found answer.result.count answer.result.errors answer.ensures start.args.mended.now _ c.before.before.before.put-repaired.ensures c.if1.false
 
 word-errors-requires : tie.Need-word-errors-requires
@@ -29,7 +29,7 @@ sub-put-repaired c = omega (arith, c.before.before.before.before.before.requires
 put-repaired-requires : tie.Need-put-repaired-requires
 put-repaired-requires c κs =
     let start = c.before.before.before.before.before.before in
-    (omega arith, start.requires.0.deep, start.requires.2, symbols-sent _ _ _ _ _ _ start.requires.0 (omega arith), symbols-room _ _ _ _ _ start.args.block.now start.args.mended.now start.requires.0 (omega arith) start.requires.1)
+    (omega arith, start.requires.0.deep, start.requires.2, symbols-sent _ _ _ _ _ _ start.requires.0 (omega arith), symbols_room _ _ _ _ _ start.args.block.now start.args.mended.now start.requires.0 (omega arith) start.requires.1)
 
 same_length : tie.Need-same-length
 same_length c = search rules
@@ -40,7 +40,7 @@ cast-t19 c =
     let answer = c.before.before.before.before.before.before.before.word-errors in
     omega (
       arith,
-      few-found start.args.e start.args.depth start.args.fill start.args.s start.args.block.now start.args.w start.requires.0
+      few_found start.args.e start.args.depth start.args.fill start.args.s start.args.block.now start.args.w start.requires.0
           answer.result.found answer.result.count answer.result.errors answer.ensures c.if1.false,
     )
 

@@ -4,7 +4,7 @@ use Prim.Native.Nat.{◌-◌, ◌≤◌}
 use native.Mathlib.Omega.{arith}
 use lib.ListN.{length}
 use Rattle.reed_solomon.specs.SalvageWorking.{WordsPut}
-use Rattle.reed_solomon.proofs.SalvagedWords.{words-start, words-turn}
+use Rattle.reed_solomon.proofs.SalvagedWords.{words_start, words_turn}
 use borrow.Author.Rules.{rules}
 use Rattle.reed_solomon.proofs.salvager.salvage_words.Statement.{statement}
 use Rattle.reed_solomon.proofs.salvager.salvage_words.Tie as tie
@@ -23,11 +23,11 @@ loop-again c =
     let word = c.before.before.salvage-word in (
       omega arith,
       word.ensures.size ∙ at.invariant.1,
-      words-turn start.args.e start.args.depth start.args.fill start.args.s start.args.block.now at.w at.marks at.counts at.mended word.result.mark word.result.count _ (omega arith) start.requires.0.deep at.invariant.2 word.ensures,
+      words_turn start.args.e start.args.depth start.args.fill start.args.s start.args.block.now at.w at.marks at.counts at.mended word.result.mark word.result.count _ (omega arith) start.requires.0.deep at.invariant.2 word.ensures,
     )
 
 loop-holds : tie.Need-loop-init invariant-loop decreases-loop
-loop-holds c = (omega arith, refl, words-start _ _ _ _ _ _)
+loop-holds c = (omega arith, refl, words_start _ _ _ _ _ _)
 
 mul-row : tie.Need-overflow-mul-row invariant-loop decreases-loop
 mul-row c = search rules

@@ -4,7 +4,7 @@ use Prim.Native.Nat.{◌≤◌, ◌-◌}
 use native.Mathlib.Omega.{arith}
 use borrow.Author.Rules.{rules}
 use Rattle.encoding.proofs.Interleaving.{place-below}
-use Rattle.reed_solomon.proofs.Gathering.{Differing, difference-starts, difference-turn}
+use Rattle.reed_solomon.proofs.Gathering.{Differing, difference_starts, difference_turn}
 use Rattle.reed_solomon.proofs.symbols.difference.Statement.{statement}
 use Rattle.reed_solomon.proofs.symbols.difference.Tie as tie
 
@@ -15,7 +15,7 @@ abbrev decreases-loop : tie.decreases-loop
 decreases-loop block depth w first n row rest₀ k₀ rest k = n - k
 
 loop-holds : tie.Need-loop-init invariant-loop decreases-loop
-loop-holds c = (omega arith, omega arith, difference-starts _ _ _ _ _)
+loop-holds c = (omega arith, omega arith, difference_starts _ _ _ _ _)
 
 sub-rest : tie.Need-overflow-sub-rest invariant-loop decreases-loop
 sub-rest c = search rules
@@ -43,7 +43,7 @@ loop-again : tie.Need-loop-preserved invariant-loop decreases-loop
 loop-again c = (
   omega arith,
   omega arith,
-  difference-turn _ _ _ _ _ c.before.before.before.loop.k _ c.before.before.before.loop.rest c.before.before.before.loop.invariant.2 (omega arith) (omega arith) c.before.octet-of.ensures,
+  difference_turn _ _ _ _ _ c.before.before.before.loop.k _ c.before.before.before.loop.rest c.before.before.before.loop.invariant.2 (omega arith) (omega arith) c.before.octet-of.ensures,
 )
 
 returns : tie.Need-returns invariant-loop decreases-loop

@@ -6,7 +6,7 @@ use borrow.Author.Rules.{rules}
 use lib.ListN.{length}
 use Rattle.reed_solomon.specs.DecoderWorking.{Put}
 use Rattle.encoding.proofs.Interleaving.{place-below}
-use Rattle.reed_solomon.proofs.Gathering.{put-starts, put-turn}
+use Rattle.reed_solomon.proofs.Gathering.{put_starts, put_turn}
 use Rattle.reed_solomon.proofs.symbols.put_repaired.Statement.{statement}
 use Rattle.reed_solomon.proofs.symbols.put_repaired.Tie as tie
 
@@ -17,7 +17,7 @@ abbrev decreases-loop : tie.decreases-loop
 decreases-loop block errors depth w n frame₀ k₀ frame k = n - k
 
 loop-holds : tie.Need-loop-init invariant-loop decreases-loop
-loop-holds c = (omega arith, refl, put-starts _ _ _ _ _ (omega arith))
+loop-holds c = (omega arith, refl, put_starts _ _ _ _ _ (omega arith))
 
 octet-of-requires : tie.Need-octet-of-requires invariant-loop decreases-loop
 octet-of-requires c κs = (omega arith, omega arith, omega arith)
@@ -44,7 +44,7 @@ loop-less c = search rules
 loop-again : tie.Need-loop-preserved invariant-loop decreases-loop
 loop-again c =
     let P : Put _ _ _ _ _ _ _ =
-    put-turn c.before.before.before.before.before.before.before.args.depth c.before.before.before.before.before.before.before.args.w c.before.before.before.before.before.before.before.args.block.now c.before.before.before.before.before.before.before.args.errors.now c.before.before.before.before.before.before.before.args.frame.now (omega arith) c.before.before.before.before.loop.k c.before.before.octet-of.result
+    put_turn c.before.before.before.before.before.before.before.args.depth c.before.before.before.before.before.before.before.args.w c.before.before.before.before.before.before.before.args.block.now c.before.before.before.before.before.before.before.args.errors.now c.before.before.before.before.before.before.before.args.frame.now (omega arith) c.before.before.before.before.loop.k c.before.before.octet-of.result
     _ c.before.before.before.before.loop.frame c.before.before.before.before.loop.invariant.2 c.before.before.octet-of.ensures (omega (arith, within c.before.before)) refl in
     (omega arith, P.size, P)
 

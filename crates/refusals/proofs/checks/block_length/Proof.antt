@@ -1,15 +1,15 @@
 -- `block_length` is within what legal parameters allow.
 use borrow.Author.Rules.{rules}
 use native.Mathlib.Omega.{arith}
-use Rattle.refusals.proofs.Legal.{accepted-words}
+use Rattle.refusals.proofs.Legal.{accepted_words}
 use Rattle.refusals.proofs.checks.block_length.Statement.{statement}
 use Rattle.refusals.proofs.checks.block_length.Tie as tie
 
 sub-interleaved : tie.Need-overflow-sub-interleaved
-sub-interleaved c = omega (arith, (accepted-words _ _ _ c.requires).filled)
+sub-interleaved c = omega (arith, (accepted_words _ _ _ c.requires).filled)
 
 interleaved-requires : tie.Need-interleaved-requires
-interleaved-requires c κs = (omega arith, (accepted-words _ _ _ c.requires).deep)
+interleaved-requires c κs = (omega arith, (accepted_words _ _ _ c.requires).deep)
 
 returns : tie.Need-returns
 returns c = search rules

@@ -1,7 +1,7 @@
 -- `decode_parameters` answers checks 1 to 4, then the lengths.
 use borrow.Author.Rules.{rules}
-use Rattle.refusals.specs.Working.{allowedParameters}
-use Rattle.refusals.proofs.Verdicts.{passed, stopped, after-allowance, allowed-words, same-lengths}
+use Rattle.refusals.specs.Working.{allowed_parameters}
+use Rattle.refusals.proofs.Verdicts.{passed, stopped, after-allowance, allowed_words, same_lengths}
 use Rattle.refusals.proofs.checks.decode_parameters.Statement.{statement}
 use Rattle.refusals.proofs.checks.decode_parameters.Tie as tie
 
@@ -12,22 +12,22 @@ enum-known-allowed : tie.Need-enum-known-allowed
 enum-known-allowed c = search rules
 
 returns : tie.Need-returns
-returns c = stopped _ (allowedParameters _ _ _ _) c.before.before.before.allowed-parameters.result _ c.before.allowed.given.1 c.before.before.before.allowed-parameters.ensures
+returns c = stopped _ (allowed_parameters _ _ _ _) c.before.before.before.allowed-parameters.result _ c.before.allowed.given.1 c.before.before.before.allowed-parameters.ensures
 
 enum_told : tie.Need-enum-told
 enum_told c = search rules
 
 block-length-requires : tie.Need-block-length-requires
-block-length-requires c κs = allowed-words _ _ _ _ (passed (allowedParameters _ _ _ _) c.before.before.allowed-parameters.result c.enum_told.given.1 c.before.before.allowed-parameters.ensures)
+block-length-requires c κs = allowed_words _ _ _ _ (passed (allowed_parameters _ _ _ _) c.before.before.allowed-parameters.result c.enum_told.given.1 c.before.before.allowed-parameters.ensures)
 
 frame-length-requires : tie.Need-frame-length-requires
-frame-length-requires c κs = allowed-words _ _ _ _ (passed (allowedParameters _ _ _ _) c.before.before.before.allowed-parameters.result c.before.enum_told.given.1 c.before.before.before.allowed-parameters.ensures)
+frame-length-requires c κs = allowed_words _ _ _ _ (passed (allowed_parameters _ _ _ _) c.before.before.before.allowed-parameters.result c.before.enum_told.given.1 c.before.before.before.allowed-parameters.ensures)
 
 lengths-requires : tie.Need-lengths-requires
 lengths-requires c κs = search rules
 
 returns-2 : tie.Need-returns-2
-returns-2 c = after-allowance _ _ _ _ _ (passed (allowedParameters _ _ _ _) c.before.before.before.before.before.allowed-parameters.result c.before.before.before.enum_told.given.1 c.before.before.before.before.before.allowed-parameters.ensures) (same-lengths _ _ _ _ c.before.before.before.before.before.before.args.block c.before.before.before.before.before.before.args.frame _ c.before.before.block-length.ensures.0 c.before.frame-length.ensures c.lengths.ensures)
+returns-2 c = after-allowance _ _ _ _ _ (passed (allowed_parameters _ _ _ _) c.before.before.before.before.before.allowed-parameters.result c.before.before.before.enum_told.given.1 c.before.before.before.before.before.allowed-parameters.ensures) (same_lengths _ _ _ _ c.before.before.before.before.before.before.args.block c.before.before.before.before.before.before.args.frame _ c.before.before.block-length.ensures.0 c.before.frame-length.ensures c.lengths.ensures)
 
 pub decode-parameters-spec : {M : Type 1} → statement M
 decode-parameters-spec =

@@ -2,12 +2,12 @@
 use mathlib.Core.List.{[], ◌∷◌}
 use native.Mathlib.Omega.{arith}
 use mathlib.Core.Logic.{inl, inr}
-use Rattle.refusals.proofs.Legal.{first-five, depth-bounds, depth-cases}
+use Rattle.refusals.proofs.Legal.{first-five, depth_bounds, depth-cases}
 use Rattle.refusals.proofs.checks.depth_legal.Statement.{statement}
 use Rattle.refusals.proofs.checks.depth_legal.Tie as tie
 
 returns : tie.Need-returns
-returns c = λ o. omega (arith, (depth-bounds _ o).0)
+returns c = λ o. omega (arith, (depth_bounds _ o).0)
 
 returns-2 : tie.Need-returns-2
 returns-2 c = first-five (8 ∷ []) _ c.before.if1.false c.if2.true

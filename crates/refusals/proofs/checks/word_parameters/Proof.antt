@@ -6,7 +6,7 @@ use native.Mathlib.Omega.{arith}
 use Rattle.refusals.specs.Order.{OneOf}
 use Rattle.refusals.specs.Sizes.{strengths, depths}
 use Rattle.refusals.proofs.Orders.{denied, granted}
-use Rattle.refusals.proofs.Legal.{strength-bounds}
+use Rattle.refusals.proofs.Legal.{strength_bounds}
 use Rattle.refusals.proofs.checks.word_parameters.Statement.{statement}
 use Rattle.refusals.proofs.checks.word_parameters.Tie as tie
 
@@ -24,20 +24,20 @@ returns-2 c =
     inr (λ n. n (granted c.before.before.before.strength-legal.result (OneOf strengths c.before.before.before.before.args.e) c.before.before.if1.false c.before.before.before.strength-legal.ensures), inl (denied c.before.depth-legal.result (OneOf depths c.before.before.before.before.args.depth) c.if2.true c.before.depth-legal.ensures, refl))
 
 mul-if3 : tie.Need-overflow-mul-if3
-mul-if3 c = omega (arith, (strength-bounds c.before.before.before.before.args.e (granted c.before.before.before.strength-legal.result (OneOf strengths c.before.before.before.before.args.e) c.before.before.if1.false c.before.before.before.strength-legal.ensures)).1)
+mul-if3 c = omega (arith, (strength_bounds c.before.before.before.before.args.e (granted c.before.before.before.strength-legal.result (OneOf strengths c.before.before.before.before.args.e) c.before.before.if1.false c.before.before.before.strength-legal.ensures)).1)
 
 sub-if3 : tie.Need-overflow-sub-if3
-sub-if3 c = omega (arith, (strength-bounds c.before.before.before.before.args.e (granted c.before.before.before.strength-legal.result (OneOf strengths c.before.before.before.before.args.e) c.before.before.if1.false c.before.before.before.strength-legal.ensures)).1)
+sub-if3 c = omega (arith, (strength_bounds c.before.before.before.before.args.e (granted c.before.before.before.strength-legal.result (OneOf strengths c.before.before.before.before.args.e) c.before.before.if1.false c.before.before.before.strength-legal.ensures)).1)
 
 returns-3 : tie.Need-returns-3
 returns-3 c =
     let strong : OneOf strengths c.before.before.before.before.before.args.e = granted c.before.before.before.before.strength-legal.result (OneOf strengths c.before.before.before.before.before.args.e) c.before.before.before.if1.false c.before.before.before.before.strength-legal.ensures in
-    inr (λ n. n strong, inr (λ n. n (granted c.before.before.depth-legal.result (OneOf depths c.before.before.before.before.before.args.depth) c.before.if2.false c.before.before.depth-legal.ensures), inl (omega (arith, (strength-bounds c.before.before.before.before.before.args.e strong).1), refl)))
+    inr (λ n. n strong, inr (λ n. n (granted c.before.before.depth-legal.result (OneOf depths c.before.before.before.before.before.args.depth) c.before.if2.false c.before.before.depth-legal.ensures), inl (omega (arith, (strength_bounds c.before.before.before.before.before.args.e strong).1), refl)))
 
 returns-4 : tie.Need-returns-4
 returns-4 c =
     let strong : OneOf strengths c.before.before.before.before.before.args.e = granted c.before.before.before.before.strength-legal.result (OneOf strengths c.before.before.before.before.before.args.e) c.before.before.before.if1.false c.before.before.before.before.strength-legal.ensures in
-    inr (λ n. n strong, inr (λ n. n (granted c.before.before.depth-legal.result (OneOf depths c.before.before.before.before.before.args.depth) c.before.if2.false c.before.before.depth-legal.ensures), inr (λ h. omega (arith, (strength-bounds c.before.before.before.before.before.args.e strong).1), refl)))
+    inr (λ n. n strong, inr (λ n. n (granted c.before.before.depth-legal.result (OneOf depths c.before.before.before.before.before.args.depth) c.before.if2.false c.before.before.depth-legal.ensures), inr (λ h. omega (arith, (strength_bounds c.before.before.before.before.before.args.e strong).1), refl)))
 
 pub word-parameters-spec : {M : Type 1} → statement M
 word-parameters-spec =

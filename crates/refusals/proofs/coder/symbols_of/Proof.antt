@@ -2,7 +2,7 @@
 use borrow.Author.Rules.{rules}
 use mathlib.Core.Path.{◌≡◌, refl}
 use native.Mathlib.Omega.{arith}
-use Rattle.refusals.proofs.Legal.{last-rate}
+use Rattle.refusals.proofs.Legal.{last_rate}
 use Rattle.refusals.proofs.coder.symbols_of.Statement.{statement}
 use Rattle.refusals.proofs.coder.symbols_of.Tie as tie
 
@@ -85,7 +85,7 @@ returns-4 : tie.Need-returns-4
 returns-4 c = (let r : c.before.args.rate ≡ 4 = c.match.keys4 in rw r refl, omega arith)
 
 returns-5 : tie.Need-returns-5
-returns-5 c = (let r : c.before.args.rate ≡ 5 = last-rate _ c.before.requires.0 c.match.rest.0.0.0.1 c.match.rest.0.0.1 c.match.rest.0.1 c.match.rest.1 in rw r refl, omega arith)
+returns-5 c = (let r : c.before.args.rate ≡ 5 = last_rate _ c.before.requires.0 c.match.rest.0.0.0.1 c.match.rest.0.0.1 c.match.rest.0.1 c.match.rest.1 in rw r refl, omega arith)
 
 pub symbols-of-spec : {M : Type 1} → statement M
 symbols-of-spec =

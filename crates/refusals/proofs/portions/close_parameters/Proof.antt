@@ -5,8 +5,8 @@ use mathlib.Core.Logic.{◌≢◌, ◌⊎◌}
 use Prim.Native.Nat.{ℕ}
 use borrow.Author.Rules.{rules}
 use Rattle.refusals.specs.Order.{Tells}
-use Rattle.refusals.specs.Working.{wordParameters}
-use Rattle.refusals.proofs.Verdicts.{passed, stopped, after-words, last-checks}
+use Rattle.refusals.specs.Working.{word_parameters}
+use Rattle.refusals.proofs.Verdicts.{passed, stopped, after_words, last_checks}
 use Rattle.refusals.proofs.portions.close_parameters.Statement.{statement}
 use Rattle.refusals.proofs.portions.close_parameters.Tie as tie
 
@@ -17,16 +17,16 @@ enum-known-word : tie.Need-enum-known-word
 enum-known-word c = search rules
 
 returns : tie.Need-returns
-returns c = stopped _ (wordParameters _ _ _) c.before.before.before.word-parameters.result _ c.before.word.given.1 c.before.before.before.word-parameters.ensures
+returns c = stopped _ (word_parameters _ _ _) c.before.before.before.word-parameters.result _ c.before.word.given.1 c.before.before.before.word-parameters.ensures
 
 enum_told : tie.Need-enum-told
 enum_told c = search rules
 
 checks-length-requires : tie.Need-checks-length-requires
-checks-length-requires c κs = passed (wordParameters _ _ _) c.before.before.word-parameters.result c.enum_told.given.1 c.before.before.word-parameters.ensures
+checks-length-requires c κs = passed (word_parameters _ _ _) c.before.before.word-parameters.result c.enum_told.given.1 c.before.before.word-parameters.ensures
 
 frame-length-requires : tie.Need-frame-length-requires
-frame-length-requires c κs = passed (wordParameters _ _ _) c.before.before.before.word-parameters.result c.before.enum_told.given.1 c.before.before.before.word-parameters.ensures
+frame-length-requires c κs = passed (word_parameters _ _ _) c.before.before.before.word-parameters.result c.before.enum_told.given.1 c.before.before.before.word-parameters.ensures
 
 out-of-place-requires : tie.Need-out-of-place-requires
 out-of-place-requires c κs = search rules
@@ -36,8 +36,8 @@ at-last-requires c κs = search rules
 
 returns-2 : tie.Need-returns-2
 returns-2 c =
-    after-words _ _ _ _ (passed (wordParameters _ _ _) c.before.before.before.before.before.before.word-parameters.result c.before.before.before.before.enum_told.given.1 c.before.before.before.before.before.before.word-parameters.ensures)
-    (last-checks _ _ _ _ _ _ c.before.before.before.checks-length.ensures
+    after_words _ _ _ _ (passed (word_parameters _ _ _) c.before.before.before.before.before.before.word-parameters.result c.before.before.before.before.enum_told.given.1 c.before.before.before.before.before.before.word-parameters.ensures)
+    (last_checks _ _ _ _ _ _ c.before.before.before.checks-length.ensures
     (subst (λ (frame : ℕ). Tells c.before.out-of-place.result ((c.before.before.before.before.before.before.before.args.closed ≡ true) ⊎ (c.before.before.before.before.before.before.before.args.place ≢ frame))) c.before.before.frame-length.ensures c.before.out-of-place.ensures)
     c.at_last.ensures)
 

@@ -6,8 +6,8 @@ use Prim.Native.Nat.{ℕ, ◌+◌, ◌<◌}
 use native.Mathlib.Omega.{arith}
 use borrow.Author.Rules.{rules}
 use Rattle.refusals.specs.Order.{Tells}
-use Rattle.refusals.specs.Working.{wordParameters}
-use Rattle.refusals.proofs.Verdicts.{passed, stopped, after-words, last-checks}
+use Rattle.refusals.specs.Working.{word_parameters}
+use Rattle.refusals.proofs.Verdicts.{passed, stopped, after_words, last_checks}
 use Rattle.refusals.proofs.portions.portion_parameters.Statement.{statement}
 use Rattle.refusals.proofs.portions.portion_parameters.Tie as tie
 
@@ -18,19 +18,19 @@ enum-known-word : tie.Need-enum-known-word
 enum-known-word c = search rules
 
 returns : tie.Need-returns
-returns c = stopped _ (wordParameters _ _ _) c.before.before.before.word-parameters.result _ c.before.word.given.1 c.before.before.before.word-parameters.ensures
+returns c = stopped _ (word_parameters _ _ _) c.before.before.before.word-parameters.result _ c.before.word.given.1 c.before.before.before.word-parameters.ensures
 
 enum_told : tie.Need-enum-told
 enum_told c = search rules
 
 returns-2 : tie.Need-returns-2
-returns-2 c = after-words _ _ _ _ (passed (wordParameters _ _ _) c.before.before.before.word-parameters.result c.before.enum_told.given.1 c.before.before.before.word-parameters.ensures) (inl (c.if1.true, refl))
+returns-2 c = after_words _ _ _ _ (passed (word_parameters _ _ _) c.before.before.before.word-parameters.result c.before.enum_told.given.1 c.before.before.before.word-parameters.ensures) (inl (c.if1.true, refl))
 
 add-end : tie.Need-overflow-add-end
 add-end c = search rules
 
 frame-length-requires : tie.Need-frame-length-requires
-frame-length-requires c κs = passed (wordParameters _ _ _) c.before.before.before.word-parameters.result c.before.enum_told.given.1 c.before.before.before.word-parameters.ensures
+frame-length-requires c κs = passed (word_parameters _ _ _) c.before.before.before.word-parameters.result c.before.enum_told.given.1 c.before.before.before.word-parameters.ensures
 
 too-much-requires : tie.Need-too-much-requires
 too-much-requires c κs = search rules
@@ -40,10 +40,10 @@ at-last-requires c κs = search rules
 
 returns-3 : tie.Need-returns-3
 returns-3 c =
-    after-words _ _ _ _ (passed (wordParameters _ _ _) c.before.before.before.before.before.before.word-parameters.result c.before.before.before.before.enum_told.given.1 c.before.before.before.before.before.before.word-parameters.ensures)
+    after_words _ _ _ _ (passed (word_parameters _ _ _) c.before.before.before.before.before.before.word-parameters.result c.before.before.before.before.enum_told.given.1 c.before.before.before.before.before.before.word-parameters.ensures)
     (inr (
       λ h. omega arith,
-      last-checks _ _ _ _ _ _ refl
+      last_checks _ _ _ _ _ _ refl
           (subst (λ (frame : ℕ). Tells c.before.too_much.result ((c.before.before.before.before.before.before.before.args.closed ≡ true) ⊎ (frame < c.before.before.before.before.before.before.before.args.place + c.before.before.before.before.before.before.before.args.portion))) c.before.before.frame-length.ensures c.before.too_much.ensures)
           c.at_last.ensures,
     ))

@@ -10,7 +10,7 @@ use lib.Dec.{ltb}
 use lib.ListN.{length-append}
 use Rattle.report_lines.specs.declared.ReportLine.TheVariants.{Short, End}
 use Rattle.report_lines.specs.declared.Text.{Text}
-use Rattle.report_lines.specs.Lines.{decimal, line_of, lineEnd}
+use Rattle.report_lines.specs.Lines.{decimal, line_of, line_end}
 use Rattle.report_lines.specs.Text.{Holds, ClosingOutcome}
 use Rattle.report_lines.proofs.Growth.{whole_length}
 use Rattle.report_lines.proofs.Numerals.{decimal-length}
@@ -46,7 +46,7 @@ slice-aggregate-ended-2 c = search rules
 
 ended-requires : tie.Need-ended-requires
 ended-requires c κs = (
-  omega (arith, c.before.before.count-line2.ensures.size, length-append (decimal c.before.before.before.before.before.args.left) lineEnd, decimal-length 20 c.before.before.before.before.before.args.left),
+  omega (arith, c.before.before.count-line2.ensures.size, length-append (decimal c.before.before.before.before.before.args.left) line_end, decimal-length 20 c.before.before.before.before.before.args.left),
   whole_length c.before.before.count-line2.result _ c.before.before.count-line2.ensures,
 )
 

@@ -5,7 +5,7 @@ use Prim.Native.Nat.{ℕ, ◌≤◌}
 use native.Mathlib.Omega.{arith}
 use borrow.Author.Rules.{rules}
 use Rattle.report_lines.specs.Working.{Added}
-use Rattle.report_lines.proofs.Numerals.{printed, at-most-twenty}
+use Rattle.report_lines.proofs.Numerals.{printed, at_most_twenty}
 use Rattle.report_lines.proofs.texts.with_number.Statement.{statement}
 use Rattle.report_lines.proofs.texts.with_number.Tie as tie
 
@@ -20,7 +20,7 @@ slice-aggregate-with-text c = search rules
 
 with-text-requires : tie.Need-with-text-requires
 with-text-requires c κs =
-    let few : c.before.decimal.result ≤ 20 = at-most-twenty c.before.decimal.result c.before.before.before.args.number (search rules) c.before.decimal.ensures.1.0 in
+    let few : c.before.decimal.result ≤ 20 = at_most_twenty c.before.decimal.result c.before.before.before.args.number (search rules) c.before.decimal.ensures.1.0 in
     (omega arith, c.before.before.before.requires.1)
 
 returns : tie.Need-returns

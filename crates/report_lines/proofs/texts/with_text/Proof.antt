@@ -5,7 +5,7 @@ use native.Mathlib.Omega.{arith}
 use borrow.Author.Rules.{rules}
 use lib.ListN.{length, length-set}
 use lib.Seq.{paste, paste-zero}
-use Rattle.report_lines.proofs.Growth.{grown, pasted-more}
+use Rattle.report_lines.proofs.Growth.{grown, pasted_more}
 use Rattle.report_lines.proofs.texts.with_text.Statement.{statement}
 use Rattle.report_lines.proofs.texts.with_text.Tie as tie
 
@@ -41,7 +41,7 @@ loop-again c = (
   c.before.before.loop.invariant.2,
   c.before.before.loop.invariant.3,
   simp length-set c.before.before.loop.invariant.4,
-  pasted-more
+  pasted_more
       c.before.before.before.before.args.text.octets
       c.before.before.loop.octets
       c.before.before.before.before.args.text.len

@@ -7,7 +7,7 @@ use lib.ListN.{replicate}
 use Rattle.convolution.specs.Coder.{bits_of}
 use Rattle.viterbi.specs.declared.Column.{Column}
 use Rattle.viterbi.proofs.Ways.{stands_at}
-use Rattle.viterbi.proofs.Gathering.{Gathered, gathered_none, gathered-more, ready}
+use Rattle.viterbi.proofs.Gathering.{Gathered, gathered_none, gathered_more, ready}
 use Rattle.viterbi.proofs.back.octet_back.Statement.{statement}
 use Rattle.viterbi.proofs.back.octet_back.Tie as tie
 
@@ -31,7 +31,7 @@ bit-back-requires : tie.Need-bit-back-requires
 bit-back-requires c κs = ready _ _ _ _ 0 1 _ _ _ (omega arith) (omega arith) c.before.before.requires.0 c.pair-at.ensures (start c.before.before)
 
 one : (c : tie.After-bit-back) → Far c.before.before.before 1 2 c.bit-back.result
-one c = gathered-more _ _ _ 0 1 2 _ _ _ _ (omega arith) (omega arith) refl c.before.pair-at.ensures (start c.before.before.before) c.bit-back.ensures
+one c = gathered_more _ _ _ 0 1 2 _ _ _ _ (omega arith) (omega arith) refl c.before.pair-at.ensures (start c.before.before.before) c.bit-back.ensures
 
 add-pair-at-2 : tie.Need-overflow-add-pair-at-2
 add-pair-at-2 c = omega (arith, c.before.before.before.requires.1, c.before.before.before.requires.2)
@@ -43,7 +43,7 @@ bit-back-requires-2 : tie.Need-bit-back-requires-2
 bit-back-requires-2 c κs = ready _ _ _ _ 1 2 _ _ _ (omega arith) (omega arith) c.before.before.before.before.requires.0 c.pair-at2.ensures (one c.before)
 
 two : (c : tie.After-bit-back2) → Far c.before.before.before.before.before 2 4 c.bit-back2.result
-two c = gathered-more _ _ _ 1 2 4 _ _ _ _ (omega arith) (omega arith) refl c.before.pair-at2.ensures (one c.before.before) c.bit-back2.ensures
+two c = gathered_more _ _ _ 1 2 4 _ _ _ _ (omega arith) (omega arith) refl c.before.pair-at2.ensures (one c.before.before) c.bit-back2.ensures
 
 add-pair-at-3 : tie.Need-overflow-add-pair-at-3
 add-pair-at-3 c = omega (arith, c.before.before.before.before.before.requires.1, c.before.before.before.before.before.requires.2)
@@ -55,7 +55,7 @@ bit-back-requires-3 : tie.Need-bit-back-requires-3
 bit-back-requires-3 c κs = ready _ _ _ _ 2 4 _ _ _ (omega arith) (omega arith) c.before.before.before.before.before.before.requires.0 c.pair-at3.ensures (two c.before)
 
 three : (c : tie.After-bit-back3) → Far c.before.before.before.before.before.before.before 3 8 c.bit-back3.result
-three c = gathered-more _ _ _ 2 4 8 _ _ _ _ (omega arith) (omega arith) refl c.before.pair-at3.ensures (two c.before.before) c.bit-back3.ensures
+three c = gathered_more _ _ _ 2 4 8 _ _ _ _ (omega arith) (omega arith) refl c.before.pair-at3.ensures (two c.before.before) c.bit-back3.ensures
 
 add-pair-at-4 : tie.Need-overflow-add-pair-at-4
 add-pair-at-4 c = omega (arith, c.before.before.before.before.before.before.before.requires.1, c.before.before.before.before.before.before.before.requires.2)
@@ -67,7 +67,7 @@ bit-back-requires-4 : tie.Need-bit-back-requires-4
 bit-back-requires-4 c κs = ready _ _ _ _ 3 8 _ _ _ (omega arith) (omega arith) c.before.before.before.before.before.before.before.before.requires.0 c.pair-at4.ensures (three c.before)
 
 four : (c : tie.After-bit-back4) → Far c.before.before.before.before.before.before.before.before.before 4 16 c.bit-back4.result
-four c = gathered-more _ _ _ 3 8 16 _ _ _ _ (omega arith) (omega arith) refl c.before.pair-at4.ensures (three c.before.before) c.bit-back4.ensures
+four c = gathered_more _ _ _ 3 8 16 _ _ _ _ (omega arith) (omega arith) refl c.before.pair-at4.ensures (three c.before.before) c.bit-back4.ensures
 
 add-pair-at-5 : tie.Need-overflow-add-pair-at-5
 add-pair-at-5 c = omega (arith, c.before.before.before.before.before.before.before.before.before.requires.1, c.before.before.before.before.before.before.before.before.before.requires.2)
@@ -79,7 +79,7 @@ bit-back-requires-5 : tie.Need-bit-back-requires-5
 bit-back-requires-5 c κs = ready _ _ _ _ 4 16 _ _ _ (omega arith) (omega arith) c.before.before.before.before.before.before.before.before.before.before.requires.0 c.pair-at5.ensures (four c.before)
 
 five : (c : tie.After-bit-back5) → Far c.before.before.before.before.before.before.before.before.before.before.before 5 32 c.bit-back5.result
-five c = gathered-more _ _ _ 4 16 32 _ _ _ _ (omega arith) (omega arith) refl c.before.pair-at5.ensures (four c.before.before) c.bit-back5.ensures
+five c = gathered_more _ _ _ 4 16 32 _ _ _ _ (omega arith) (omega arith) refl c.before.pair-at5.ensures (four c.before.before) c.bit-back5.ensures
 
 add-pair-at-6 : tie.Need-overflow-add-pair-at-6
 add-pair-at-6 c = omega (arith, c.before.before.before.before.before.before.before.before.before.before.before.requires.1, c.before.before.before.before.before.before.before.before.before.before.before.requires.2)
@@ -91,7 +91,7 @@ bit-back-requires-6 : tie.Need-bit-back-requires-6
 bit-back-requires-6 c κs = ready _ _ _ _ 5 32 _ _ _ (omega arith) (omega arith) c.before.before.before.before.before.before.before.before.before.before.before.before.requires.0 c.pair-at6.ensures (five c.before)
 
 six : (c : tie.After-bit-back6) → Far c.before.before.before.before.before.before.before.before.before.before.before.before.before 6 64 c.bit-back6.result
-six c = gathered-more _ _ _ 5 32 64 _ _ _ _ (omega arith) (omega arith) refl c.before.pair-at6.ensures (five c.before.before) c.bit-back6.ensures
+six c = gathered_more _ _ _ 5 32 64 _ _ _ _ (omega arith) (omega arith) refl c.before.pair-at6.ensures (five c.before.before) c.bit-back6.ensures
 
 add-pair-at-7 : tie.Need-overflow-add-pair-at-7
 add-pair-at-7 c = omega (arith, c.before.before.before.before.before.before.before.before.before.before.before.before.before.requires.1, c.before.before.before.before.before.before.before.before.before.before.before.before.before.requires.2)
@@ -103,7 +103,7 @@ bit-back-requires-7 : tie.Need-bit-back-requires-7
 bit-back-requires-7 c κs = ready _ _ _ _ 6 64 _ _ _ (omega arith) (omega arith) c.before.before.before.before.before.before.before.before.before.before.before.before.before.before.requires.0 c.pair-at7.ensures (six c.before)
 
 seven : (c : tie.After-bit-back7) → Far c.before.before.before.before.before.before.before.before.before.before.before.before.before.before.before 7 128 c.bit-back7.result
-seven c = gathered-more _ _ _ 6 64 128 _ _ _ _ (omega arith) (omega arith) refl c.before.pair-at7.ensures (six c.before.before) c.bit-back7.ensures
+seven c = gathered_more _ _ _ 6 64 128 _ _ _ _ (omega arith) (omega arith) refl c.before.pair-at7.ensures (six c.before.before) c.bit-back7.ensures
 
 pair-at-requires-8 : tie.Need-pair-at-requires-8
 pair-at-requires-8 c κs = omega (arith, c.before.before.before.before.before.before.before.before.before.before.before.before.before.before.before.requires.1, c.before.before.before.before.before.before.before.before.before.before.before.before.before.before.before.requires.2)
@@ -112,7 +112,7 @@ bit-back-requires-8 : tie.Need-bit-back-requires-8
 bit-back-requires-8 c κs = ready _ _ _ _ 7 128 _ _ _ (omega arith) (omega arith) c.before.before.before.before.before.before.before.before.before.before.before.before.before.before.before.before.requires.0 c.pair-at8.ensures (seven c.before)
 
 eight : (c : tie.After-bit-back8) → Far c.before.before.before.before.before.before.before.before.before.before.before.before.before.before.before.before.before 8 256 c.bit-back8.result
-eight c = gathered-more _ _ _ 7 128 256 _ _ _ _ (omega arith) (omega arith) refl c.before.pair-at8.ensures (seven c.before.before) c.bit-back8.ensures
+eight c = gathered_more _ _ _ 7 128 256 _ _ _ _ (omega arith) (omega arith) refl c.before.pair-at8.ensures (seven c.before.before) c.bit-back8.ensures
 
 returns : tie.Need-returns
 returns c =

@@ -3,15 +3,15 @@ use mathlib.Core.Path.{refl, ◌∙◌}
 use Prim.Native.Nat.{◌-◌, ◌+◌, ◌*◌, ◌≤◌}
 use native.Mathlib.Omega.{arith}
 use borrow.Author.Rules.{rules}
-use Rattle.viterbi.proofs.Stepping.{Filled, filled_none, filled-two, costAt, wayAt, even-cost, odd-cost, even-way, odd-way, all-earlier}
+use Rattle.viterbi.proofs.Stepping.{Filled, filled_none, filled-two, cost_at, way_at, even_cost, odd_cost, even_way, odd_way, all_earlier}
 use Rattle.viterbi.proofs.steps.bit_back.Statement.{statement}
 use Rattle.viterbi.proofs.steps.bit_back.Tie as tie
 
 abbrev invariant-loop : tie.invariant-loop
 invariant-loop list pair weight later ahead costs₀ ways₀ k₀ costs ways k =
     (k ≤ 32)
-    × Filled (costAt later pair) (2 * k) costs
-    × Filled (wayAt (record { costs = later; ways = ahead }) pair weight) (2 * k) ways
+    × Filled (cost_at later pair) (2 * k) costs
+    × Filled (way_at (record { costs = later; ways = ahead }) pair weight) (2 * k) ways
 
 abbrev decreases-loop : tie.decreases-loop
 decreases-loop list pair weight later ahead costs₀ ways₀ k₀ costs ways k = 32 - k
@@ -114,19 +114,19 @@ loop-again c =
     let inv = c.before.before.before.before.before.before.loop.invariant in (
       omega arith,
       filled-two _ _ _ _ _ k
-          (c.before.before.before.cheaper.ensures ∙ even-cost args.column args.pair args.weight _ _ k serves)
-          (c.before.before.cheaper2.ensures ∙ odd-cost args.column args.pair args.weight _ _ k serves)
+          (c.before.before.before.cheaper.ensures ∙ even_cost args.column args.pair args.weight _ _ k serves)
+          (c.before.before.cheaper2.ensures ∙ odd_cost args.column args.pair args.weight _ _ k serves)
           inv.1,
       filled-two _ _ _ _ _ k
-          (c.before.way-of-cheaper.ensures ∙ even-way args.column args.pair args.weight _ _ k serves)
-          (c.way-of-cheaper2.ensures ∙ odd-way args.column args.pair args.weight _ _ k serves)
+          (c.before.way-of-cheaper.ensures ∙ even_way args.column args.pair args.weight _ _ k serves)
+          (c.way-of-cheaper2.ensures ∙ odd_way args.column args.pair args.weight _ _ k serves)
           inv.2,
     )
 
 returns : tie.Need-returns invariant-loop decreases-loop
 returns c =
     let l = c.before.loop in
-    all-earlier _ _ _ _ l.k (omega arith) l.invariant.1 l.invariant.2
+    all_earlier _ _ _ _ l.k (omega arith) l.invariant.1 l.invariant.2
 
 pub bit-back-spec : {M : Type 1} → statement M
 bit-back-spec =

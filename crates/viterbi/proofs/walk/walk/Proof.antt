@@ -6,7 +6,7 @@ use borrow.Author.Rules.{rules}
 use mathlib.Core.List.{[]}
 use lib.ListN.{length, get_or, length-set}
 use Rattle.convolution.specs.Coder.{bits_of}
-use Rattle.viterbi.proofs.Walking.{Halfway, halfway-none, halfway-more, ahead-at, whole-way}
+use Rattle.viterbi.proofs.Walking.{Halfway, halfway_none, halfway_more, ahead-at, whole_way}
 use Rattle.viterbi.proofs.walk.walk.Statement.{statement}
 use Rattle.viterbi.proofs.walk.walk.Tie as tie
 
@@ -18,7 +18,7 @@ abbrev decreases-loop : tie.decreases-loop
 decreases-loop symbols rows register data₀ n at₀ i₀ «data» at i = n - i
 
 loop-holds : tie.Need-loop-init invariant-loop decreases-loop
-loop-holds c = (omega arith, refl, refl, halfway-none _ _ _ c.before.before.requires.2)
+loop-holds c = (omega arith, refl, refl, halfway_none _ _ _ c.before.before.requires.2)
 
 turned-requires : tie.Need-turned-requires invariant-loop decreases-loop
 turned-requires c κs = search rules
@@ -53,7 +53,7 @@ loop-again c =
     let l = c.before.before.before.loop in
     let start = c.before.before.before.before.before.before in
     let octet = ahead-at _ (get_or start.args.rows.now l.i []) _ _ _ c.before.turned.ensures.0 (start.requires.3.at l.i (omega arith) (omega arith) l.at l.invariant.3.register) in
-    (omega arith, refl, simp length-set l.invariant.2, halfway-more _ _ _ _ _ _ (omega arith) l.invariant.3 octet)
+    (omega arith, refl, simp length-set l.invariant.2, halfway_more _ _ _ _ _ _ (omega arith) l.invariant.3 octet)
 
 same_length : tie.Need-same-length invariant-loop decreases-loop
 same_length c = c.before.loop.invariant.2
@@ -61,7 +61,7 @@ same_length c = c.before.loop.invariant.2
 returns : tie.Need-returns invariant-loop decreases-loop
 returns c =
     let l = c.before.loop in
-    (l.invariant.3.register, whole-way c.before.before.before.before.args.symbols.now _ _ _ l.i _ (omega arith) l.invariant.2 (omega arith) l.invariant.3)
+    (l.invariant.3.register, whole_way c.before.before.before.before.args.symbols.now _ _ _ l.i _ (omega arith) l.invariant.2 (omega arith) l.invariant.3)
 
 pub walk-spec : {M : Type 1} → statement M
 walk-spec =

@@ -1,7 +1,7 @@
 -- `decode_word`: too many marks, or nothing to correct, or errors are looked for.
 use native.Mathlib.Omega.{arith}
 use borrow.Author.Rules.{rules}
-use Rattle.words.proofs.Decisions.{too-many-by, unchanged-by}
+use Rattle.words.proofs.Decisions.{too_many_by, unchanged_by}
 use Rattle.words.proofs.decoder.decode_word.Statement.{statement}
 use Rattle.words.proofs.decoder.decode_word.Tie as tie
 
@@ -14,7 +14,7 @@ without-errors-requires c κs = search rules
 returns : tie.Need-returns
 returns c = (
   omega (arith, c.without-errors.ensures.1),
-  too-many-by _ _ _ _ (omega arith) (omega arith) (omega arith) _ _ _ _ c.without-errors.ensures.0 c.without-errors.ensures.2 c.without-errors.ensures.3 (omega arith),
+  too_many_by _ _ _ _ (omega arith) (omega arith) (omega arith) _ _ _ _ c.without-errors.ensures.0 c.without-errors.ensures.2 c.without-errors.ensures.3 (omega arith),
 )
 
 untouched-requires : tie.Need-untouched-requires
@@ -26,7 +26,7 @@ without-errors-requires-2 c κs = search rules
 returns-2 : tie.Need-returns-2
 returns-2 c = (
   omega (arith, c.without-errors2.ensures.1),
-  unchanged-by _ _ _ _ (omega arith) (omega arith) (omega arith) _ _ _ _ c.without-errors2.ensures.0 c.without-errors2.ensures.1 c.without-errors2.ensures.2 c.without-errors2.ensures.3
+  unchanged_by _ _ _ _ (omega arith) (omega arith) (omega arith) _ _ _ _ c.without-errors2.ensures.0 c.without-errors2.ensures.1 c.without-errors2.ensures.2 c.without-errors2.ensures.3
       (omega (arith, (c.before.before.untouched.ensures c.before.if2.true).0)) (c.before.before.untouched.ensures c.before.if2.true).1,
 )
 

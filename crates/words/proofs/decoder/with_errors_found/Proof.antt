@@ -4,7 +4,7 @@ use Prim.Native.Nat.{ℕ, ◌+◌, ◌*◌, ◌/◌}
 use native.Mathlib.Omega.{arith}
 use lib.Seq.{length-take-le}
 use borrow.Author.Rules.{rules}
-use Rattle.words.proofs.Decisions.{too-far-by, too-few-by, decided-by}
+use Rattle.words.proofs.Decisions.{too_far_by, too_few_by, decided_by}
 use Rattle.words.proofs.decoder.with_errors_found.Statement.{statement}
 use Rattle.words.proofs.decoder.with_errors_found.Tie as tie
 
@@ -30,7 +30,7 @@ without-errors-requires c κs = search rules
 returns : tie.Need-returns
 returns c = (
   omega (arith, c.without-errors.ensures.1),
-  too-far-by _ _ _ _ (omega arith) (omega arith) (omega arith) _ _ _ _ c.without-errors.ensures.0 c.without-errors.ensures.2 c.without-errors.ensures.3 (omega arith) _ _
+  too_far_by _ _ _ _ (omega arith) (omega arith) (omega arith) _ _ _ _ c.without-errors.ensures.0 c.without-errors.ensures.2 c.without-errors.ensures.3 (omega arith) _ _
       c.before.before.before.unmarked-locator.ensures (omega arith),
 )
 
@@ -64,7 +64,7 @@ without-errors-requires-2 c κs = search rules
 returns-2 : tie.Need-returns-2
 returns-2 c = (
   omega (arith, c.without-errors2.ensures.1),
-  too-few-by _ _ _ _ (omega arith) (omega arith) (omega arith) _ _ _ _ c.without-errors2.ensures.0 c.without-errors2.ensures.2 c.without-errors2.ensures.3 (omega arith) _ _
+  too_few_by _ _ _ _ (omega arith) (omega arith) (omega arith) _ _ _ _ c.without-errors2.ensures.0 c.without-errors2.ensures.2 c.without-errors2.ensures.3 (omega arith) _ _
       c.before.before.before.before.before.before.before.before.unmarked-locator.ensures (omega arith) _ c.before.before.before.before.before.times-marks.ensures
       (cut c.before.before.before.before.before.before.before.before.unmarked-locator.result.len c.before.before.before.before.before.before.before.before.before.before.before.args.f) _ _ c.before.before.before.find-roots.ensures (omega arith) (search rules),
 )
@@ -81,7 +81,7 @@ all-errors-requires c κs = search rules
 returns-3 : tie.Need-returns-3
 returns-3 c = (
   omega arith,
-  decided-by _ _ _ _ (omega arith) (omega arith) (omega arith) _ _ _ c.before.before.before.before.before.before.before.before.before.unmarked-locator.ensures (omega arith) _
+  decided_by _ _ _ _ (omega arith) (omega arith) (omega arith) _ _ _ c.before.before.before.before.before.before.before.before.before.unmarked-locator.ensures (omega arith) _
       c.before.before.before.before.before.before.times-marks.ensures
       (cut c.before.before.before.before.before.before.before.before.before.unmarked-locator.result.len c.before.before.before.before.before.before.before.before.before.before.before.before.args.f) _ _ c.before.before.before.before.find-roots.ensures (omega arith) _ c.all-errors.ensures (search rules),
 )

@@ -3,7 +3,7 @@ use mathlib.Core.Path.{◌≡◌}
 use Prim.Native.Nat.{◌+◌}
 use native.Mathlib.Omega.{arith}
 use borrow.Author.Rules.{rules}
-use Rattle.words.proofs.ErrorsPlaced.{listed-are-roots, placed-starts, placed-ends}
+use Rattle.words.proofs.ErrorsPlaced.{listed_are_roots, placed_starts, placed_ends}
 use Rattle.words.proofs.errors.all_errors.Statement.{statement}
 use Rattle.words.proofs.errors.all_errors.Tie as tie
 
@@ -13,12 +13,12 @@ at-most-a-row-requires c κs = search rules
 with-errors-requires : tie.Need-with-errors-requires
 with-errors-requires c κs =
     let start = c.before.before.before.before.before in
-    (omega arith, omega arith, omega arith, omega arith, listed-are-roots _ _ _ _ start.requires.3 (omega arith) _ (omega arith), placed-starts _ _ _ _ _)
+    (omega arith, omega arith, omega arith, omega arith, listed_are_roots _ _ _ _ start.requires.3 (omega arith) _ (omega arith), placed_starts _ _ _ _ _)
 
 returns : tie.Need-returns
 returns c =
     let start = c.before.before.before.before.before.before.before in
-    placed-ends _ _ _ _ _ _ start.requires.3 (omega arith) _ _ c.before.with-errors.ensures (omega arith)
+    placed_ends _ _ _ _ _ _ start.requires.3 (omega arith) _ _ c.before.with-errors.ensures (omega arith)
 
 sub-with-errors : tie.Need-overflow-sub-with-errors
 sub-with-errors c = search rules
@@ -31,14 +31,14 @@ with-errors-requires-2 c κs =
       omega arith,
       omega arith,
       omega arith,
-      listed-are-roots _ _ _ _ start.requires.3 (omega arith) _ (omega arith),
+      listed_are_roots _ _ _ _ start.requires.3 (omega arith) _ (omega arith),
       rw row at c.before.before.with-errors.ensures,
     )
 
 returns-2 : tie.Need-returns-2
 returns-2 c =
     let start = c.before.before.before.before.before.before.before.before.before in
-    placed-ends _ _ _ _ _ _ start.requires.3 (omega arith) _ _ c.with-errors2.ensures (omega arith)
+    placed_ends _ _ _ _ _ _ start.requires.3 (omega arith) _ _ c.with-errors2.ensures (omega arith)
 
 pub all-errors-spec : {M : Type 1} → statement M
 all-errors-spec =

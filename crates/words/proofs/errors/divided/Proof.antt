@@ -4,7 +4,7 @@ use Prim.Native.Nat.{◌≤◌}
 use native.Mathlib.Omega.{arith}
 use lib.ListN.{length}
 use borrow.Author.Rules.{rules}
-use Rattle.words.proofs.ErrorsPlaced.{Dividing, dividing-starts, dividing-turn, dividing-ends}
+use Rattle.words.proofs.ErrorsPlaced.{Dividing, dividing_starts, dividing_turn, dividing_ends}
 use Rattle.words.proofs.errors.divided.Statement.{statement}
 use Rattle.words.proofs.errors.divided.Tie as tie
 
@@ -20,7 +20,7 @@ undivided-requires c κs = search rules
 loop-holds : tie.Need-loop-init invariant-loop decreases-loop
 loop-holds c =
     let none = c.undivided.ensures in
-    (omega arith, rw (none.0, none.1, none.2) (dividing-starts 16 _ _ _))
+    (omega arith, rw (none.0, none.1, none.2) (dividing_starts 16 _ _ _))
 
 sub-j : tie.Need-overflow-sub-j invariant-loop decreases-loop
 sub-j c = search rules
@@ -43,12 +43,12 @@ loop-again : tie.Need-loop-preserved invariant-loop decreases-loop
 loop-again c =
     let taken = c.with-coefficient.ensures in
     let now = c.before.before.before.before.loop in
-    (omega arith, dividing-turn 16 _ _ _ _ _ _ now.j (omega arith) now.invariant.1 _ _ _ _ c.before.before.term.ensures taken.above-is taken.below-is taken.rest-is)
+    (omega arith, dividing_turn 16 _ _ _ _ _ _ now.j (omega arith) now.invariant.1 _ _ _ _ c.before.before.term.ensures taken.above-is taken.below-is taken.rest-is)
 
 returns : tie.Need-returns invariant-loop decreases-loop
 returns c =
     let all : c.before.loop.j ≡ 0 = omega arith in
-    dividing-ends _ _ _ _ _ _ (rw all at c.before.loop.invariant.1)
+    dividing_ends _ _ _ _ _ _ (rw all at c.before.loop.invariant.1)
 
 pub divided-spec : {M : Type 1} → statement M
 divided-spec =

@@ -1,6 +1,6 @@
 -- `errors_at` divides what the quotient pairs to by its value and by the m-th power of the locator.
 use borrow.Author.Rules.{rules}
-use Rattle.words.proofs.ErrorsPlaced.{errors-are}
+use Rattle.words.proofs.ErrorsPlaced.{errors_are}
 use Rattle.words.proofs.errors.errors_at.Statement.{statement}
 use Rattle.words.proofs.errors.errors_at.Tie as tie
 
@@ -26,7 +26,7 @@ returns : tie.Need-returns
 returns c =
     let shifted = c.before.before.before.before.before.before.before.before in
     let located = shifted.before.before.before.before.before in
-    errors-are located.before.before.before.args.s.now _ _ _ _ _ _ _ _ _ _ located.locator-powers.ensures shifted.before.before.before.divided.ensures shifted.locator-powers2.ensures c.before.before.before.before.before.times.ensures c.before.before.before.inverses.ensures c.times2.ensures
+    errors_are located.before.before.before.args.s.now _ _ _ _ _ _ _ _ _ _ located.locator-powers.ensures shifted.before.before.before.divided.ensures shifted.locator-powers2.ensures c.before.before.before.before.before.times.ensures c.before.before.before.inverses.ensures c.times2.ensures
 
 pub errors-at-spec : {M : Type 1} → statement M
 errors-at-spec =

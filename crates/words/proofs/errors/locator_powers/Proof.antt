@@ -3,14 +3,14 @@ use mathlib.Core.Path.{◌≡◌, refl}
 use Prim.Native.Nat.{◌≤◌, ◌-◌}
 use native.Mathlib.Omega.{arith}
 use borrow.Author.Rules.{rules}
-use Rattle.words.proofs.Arrays.{filled-starts, filled-turn}
-use Rattle.words.proofs.ErrorsPlaced.{power-listed}
-use Rattle.words.specs.Working.{Filled, locatorPower}
+use Rattle.words.proofs.Arrays.{filled_starts, filled_turn}
+use Rattle.words.proofs.ErrorsPlaced.{power_listed}
+use Rattle.words.specs.Working.{Filled, locator_power}
 use Rattle.words.proofs.errors.locator_powers.Statement.{statement}
 use Rattle.words.proofs.errors.locator_powers.Tie as tie
 
 abbrev invariant-loop : tie.invariant-loop
-invariant-loop powers m list out₀ i₀ out i = (i ≤ 16) × Filled (locatorPower powers m) 16 out i
+invariant-loop powers m list out₀ i₀ out i = (i ≤ 16) × Filled (locator_power powers m) 16 out i
 
 abbrev decreases-loop : tie.decreases-loop
 decreases-loop powers m list out₀ i₀ out i = 16 - i
@@ -19,7 +19,7 @@ locators-requires : tie.Need-locators-requires invariant-loop decreases-loop
 locators-requires c κs = search rules
 
 loop-holds : tie.Need-loop-init invariant-loop decreases-loop
-loop-holds c = (omega arith, filled-starts _ 16 _ refl)
+loop-holds c = (omega arith, filled_starts _ 16 _ refl)
 
 element-copy-out-times-round : tie.Need-element-copy-out-times-round invariant-loop decreases-loop
 element-copy-out-times-round c = search rules
@@ -40,8 +40,8 @@ loop-less : tie.Need-loop-smaller invariant-loop decreases-loop
 loop-less c = search rules
 
 loop-again : tie.Need-loop-preserved invariant-loop decreases-loop
-unfolding locatorPower
-loop-again c = (omega arith, filled-turn _ 16 _ _ _ c.before.before.before.loop.invariant.1 (omega arith) (power-listed _ _ _ _ c.before.before.before.before.locators.ensures c.times-round.ensures))
+unfolding locator_power
+loop-again c = (omega arith, filled_turn _ 16 _ _ _ c.before.before.before.loop.invariant.1 (omega arith) (power_listed _ _ _ _ c.before.before.before.before.locators.ensures c.times-round.ensures))
 
 returns : tie.Need-returns invariant-loop decreases-loop
 returns c =

@@ -3,7 +3,7 @@ use mathlib.Core.Path.{◌≡◌}
 use Prim.Native.Nat.{◌-◌, ◌≤◌}
 use native.Mathlib.Omega.{arith}
 use borrow.Author.Rules.{rules}
-use Rattle.words.proofs.ErrorsPlaced.{taken-starts, taken-turn}
+use Rattle.words.proofs.ErrorsPlaced.{taken_starts, taken_turn}
 use Rattle.words.specs.Working.{CoefficientTaken}
 use Rattle.words.proofs.errors.with_coefficient.Statement.{statement}
 use Rattle.words.proofs.errors.with_coefficient.Tie as tie
@@ -15,7 +15,7 @@ abbrev decreases-loop : tie.decreases-loop
 decreases-loop locators syndrome coefficient above below rest above₀ below₀ rest₀ i₀ above' below' rest' i = 16 - i
 
 loop-holds : tie.Need-loop-init invariant-loop decreases-loop
-loop-holds c = (omega arith, taken-starts _ _ _ _ _ _)
+loop-holds c = (omega arith, taken_starts _ _ _ _ _ _)
 
 array-read-mul : tie.Need-array-read-mul invariant-loop decreases-loop
 array-read-mul c = search rules
@@ -65,7 +65,7 @@ loop-less c = search rules
 loop-again : tie.Need-loop-preserved invariant-loop decreases-loop
 loop-again c =
     let now = c.before.before.before.before.before.before.loop in
-    (omega arith, taken-turn now.i _ _ _ now.invariant.1 (omega arith) c.before.before.before.before.mul.ensures c.before.before.mul2.ensures c.mul3.ensures)
+    (omega arith, taken_turn now.i _ _ _ now.invariant.1 (omega arith) c.before.before.before.before.mul.ensures c.before.before.mul2.ensures c.mul3.ensures)
 
 returns : tie.Need-returns invariant-loop decreases-loop
 returns c =

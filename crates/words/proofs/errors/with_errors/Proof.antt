@@ -6,7 +6,7 @@ use native.Mathlib.Omega.{arith}
 use lib.ListN.{get_or}
 use borrow.Author.Rules.{rules}
 use Rattle.words.specs.Working.{Placed}
-use Rattle.words.proofs.ErrorsPlaced.{power_below, placed-turn}
+use Rattle.words.proofs.ErrorsPlaced.{power_below, placed_turn}
 use Rattle.words.proofs.errors.with_errors.Statement.{statement}
 use Rattle.words.proofs.errors.with_errors.Tie as tie
 
@@ -57,7 +57,7 @@ loop-again c =
     let start = c.before.before.before.before.before.before.before.before in (
       omega arith,
       c.before.loop.invariant.1,
-      placed-turn _ _ _ _ _ start.requires.4 _ (omega arith) c.before.before.before.before.row_from.ensures _ _ _ _ c.before.loop.c (omega arith) c.before.loop.invariant.2
+      placed_turn _ _ _ _ _ start.requires.4 _ (omega arith) c.before.before.before.before.row_from.ensures _ _ _ _ c.before.loop.c (omega arith) c.before.loop.invariant.2
           c.before.before.errors-at.ensures (omega arith) _ (omega (arith, c.before.loop.invariant.1 c.before.loop.c (omega arith))),
     )
 

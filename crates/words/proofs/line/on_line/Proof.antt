@@ -4,8 +4,8 @@ use Prim.Native.Nat.{◌≤◌, ◌-◌}
 use native.Mathlib.Omega.{arith}
 use lib.ListN.{length}
 use borrow.Author.Rules.{rules}
-use Rattle.words.proofs.Arrays.{filled-starts}
-use Rattle.words.proofs.Conversions.{line_at, line-turn, line-ends}
+use Rattle.words.proofs.Arrays.{filled_starts}
+use Rattle.words.proofs.Conversions.{line_at, line_turn, line_ends}
 use Rattle.words.specs.Working.{Filled}
 use Rattle.words.proofs.line.on_line.Statement.{statement}
 use Rattle.words.proofs.line.on_line.Tie as tie
@@ -17,7 +17,7 @@ abbrev decreases-loop : tie.decreases-loop
 decreases-loop errors out₀ i₀ out i = 255 - i
 
 loop-holds : tie.Need-loop-init invariant-loop decreases-loop
-loop-holds c = (omega arith, c.requires, filled-starts _ 255 _ refl)
+loop-holds c = (omega arith, c.requires, filled_starts _ 255 _ refl)
 
 element-copy-out-line-octet : tie.Need-element-copy-out-line-octet invariant-loop decreases-loop
 element-copy-out-line-octet c = search rules
@@ -35,12 +35,12 @@ loop-less : tie.Need-loop-smaller invariant-loop decreases-loop
 loop-less c = search rules
 
 loop-again : tie.Need-loop-preserved invariant-loop decreases-loop
-loop-again c = (omega arith, omega arith, line-turn _ _ _ _ c.before.before.before.loop.invariant.2 (omega arith) c.line-octet.ensures)
+loop-again c = (omega arith, omega arith, line_turn _ _ _ _ c.before.before.before.loop.invariant.2 (omega arith) c.line-octet.ensures)
 
 returns : tie.Need-returns invariant-loop decreases-loop
 returns c =
     let all : c.before.loop.i ≡ 255 = omega arith in
-    line-ends _ _ c.before.loop.invariant.1 (rw all at c.before.loop.invariant.2)
+    line_ends _ _ c.before.loop.invariant.1 (rw all at c.before.loop.invariant.2)
 
 pub on-line-spec : {M : Type 1} → statement M
 on-line-spec =

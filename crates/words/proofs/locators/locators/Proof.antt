@@ -1,14 +1,14 @@
 -- `locators` returns a list that begins with one, and in which beta times each is the next.
 use mathlib.Core.Path.{refl}
-use Rattle.field.specs.Field.{◌⊕◌, whereSet, timesAlpha, shiftAndAdd, ◌·◌, pow}
+use Rattle.field.specs.Field.{◌⊕◌, where_set, times_alpha, shift_and_add, ◌·◌, pow}
 use Rattle.codewords.specs.Locators.{beta}
-use Rattle.words.proofs.RowTurns.{powers-listed}
+use Rattle.words.proofs.RowTurns.{powers_listed}
 use Rattle.words.proofs.locators.locators.Statement.{statement}
 use Rattle.words.proofs.locators.locators.Tie as tie
 
 returns : tie.Need-returns
-unfolding beta pow ◌·◌ shiftAndAdd timesAlpha whereSet ◌⊕◌
-returns c = powers-listed _ beta 254 refl refl tt
+unfolding beta pow ◌·◌ shift_and_add times_alpha where_set ◌⊕◌
+returns c = powers_listed _ beta 254 refl refl tt
 
 pub locators-spec : {M : Type 1} → statement M
 locators-spec = tie.close (tie.spec returns)

@@ -4,8 +4,8 @@ use Prim.Native.Nat.{◌≤◌, ◌+◌, ◌-◌}
 use native.Mathlib.Omega.{arith}
 use lib.ListN.{length, length-take, length-drop}
 use borrow.Author.Rules.{rules}
-use Rattle.words.proofs.Arrays.{filled-starts, filled-turn}
-use Rattle.words.proofs.Coefficients.{window-is}
+use Rattle.words.proofs.Arrays.{filled_starts, filled_turn}
+use Rattle.words.proofs.Coefficients.{window_is}
 use Rattle.words.specs.Working.{Filled, windowed}
 use Rattle.words.proofs.marks.changed.Statement.{statement}
 use Rattle.words.proofs.marks.changed.Tie as tie
@@ -23,7 +23,7 @@ sub-i-end : tie.Need-overflow-sub-i-end invariant-loop decreases-loop
 sub-i-end c = search rules
 
 loop-holds : tie.Need-loop-init invariant-loop decreases-loop
-loop-holds c = (omega arith, omega arith, filled-starts _ 32 _ refl)
+loop-holds c = (omega arith, omega arith, filled_starts _ 32 _ refl)
 
 sub-pair : tie.Need-overflow-sub-pair invariant-loop decreases-loop
 sub-pair c = search rules
@@ -47,7 +47,7 @@ loop-less : tie.Need-loop-smaller invariant-loop decreases-loop
 loop-less c = search rules
 
 loop-again : tie.Need-loop-preserved invariant-loop decreases-loop
-loop-again c = (omega arith, omega arith, filled-turn _ 32 _ _ _ c.before.before.before.loop.invariant.2 (omega arith) (window-is _ _ _ _ c.pair.ensures))
+loop-again c = (omega arith, omega arith, filled_turn _ 32 _ _ _ c.before.before.before.loop.invariant.2 (omega arith) (window_is _ _ _ _ c.pair.ensures))
 
 returns : tie.Need-returns invariant-loop decreases-loop
 returns c =

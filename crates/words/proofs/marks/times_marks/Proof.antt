@@ -5,7 +5,7 @@ use Prim.Native.Nat.{◌≤◌, ◌-◌}
 use native.Mathlib.Omega.{arith}
 use lib.ListN.{length, drop}
 use borrow.Author.Rules.{rules}
-use Rattle.words.proofs.MarkedProducts.{product-starts, product-unmarked, product-marked, product-plain}
+use Rattle.words.proofs.MarkedProducts.{product_starts, product_unmarked, product_marked, product_plain}
 use Rattle.words.specs.Working.{HoldsProduct}
 use Rattle.words.proofs.marks.times_marks.Statement.{statement}
 use Rattle.words.proofs.marks.times_marks.Tie as tie
@@ -17,13 +17,13 @@ abbrev decreases-loop : tie.decreases-loop
 decreases-loop marks f list n out₀ power₀ out power = n - power
 
 returns : tie.Need-returns invariant-loop decreases-loop
-returns c = product-unmarked _ _ (omega arith) (omega arith)
+returns c = product_unmarked _ _ (omega arith) (omega arith)
 
 locators-requires : tie.Need-locators-requires invariant-loop decreases-loop
 locators-requires c κs = search rules
 
 loop-holds : tie.Need-loop-init invariant-loop decreases-loop
-loop-holds c = (omega arith, product-starts _ c.before.before.before.args.marks.now c.before.before.before.requires.0)
+loop-holds c = (omega arith, product_starts _ c.before.before.before.args.marks.now c.before.before.before.requires.0)
 
 sub-if2 : tie.Need-overflow-sub-if2 invariant-loop decreases-loop
 sub-if2 c = search rules
@@ -52,8 +52,8 @@ loop-again c =
     let marks = turn.before.before.before.before.args.marks.now in (
       omega arith,
       ⊎_elim
-          (λ w. subst (HoldsProduct _ _) (sym w.3) (product-marked _ marks turn.loop.power _ (omega arith) turn.loop.invariant.1 _ _ w.0.taken (turn.before.locators.ensures.each _ (omega arith)) w.2.ensures))
-          (λ w. subst (HoldsProduct _ _) (sym w.1) (product-plain _ marks turn.loop.power _ (omega arith) turn.loop.invariant.1 w.0.left))
+          (λ w. subst (HoldsProduct _ _) (sym w.3) (product_marked _ marks turn.loop.power _ (omega arith) turn.loop.invariant.1 _ _ w.0.taken (turn.before.locators.ensures.each _ (omega arith)) w.2.ensures))
+          (λ w. subst (HoldsProduct _ _) (sym w.1) (product_plain _ marks turn.loop.power _ (omega arith) turn.loop.invariant.1 w.0.left))
           c.if2.branch,
     )
 

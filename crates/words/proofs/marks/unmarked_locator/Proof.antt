@@ -4,8 +4,8 @@ use native.Mathlib.Omega.{arith}
 use lib.ListN.{length-take}
 use lib.Seq.{length-take-le}
 use borrow.Author.Rules.{rules}
-use Rattle.words.proofs.Arrays.{one-first}
-use Rattle.words.proofs.MarkedProducts.{holds-unmarked, holds-changed}
+use Rattle.words.proofs.Arrays.{one_first}
+use Rattle.words.proofs.MarkedProducts.{holds_unmarked, holds_changed}
 use Rattle.words.proofs.marks.unmarked_locator.Statement.{statement}
 use Rattle.words.proofs.marks.unmarked_locator.Tie as tie
 
@@ -18,7 +18,7 @@ polynomial-requires c κs = search rules
 returns : tie.Need-returns
 returns c =
     let known = c.before.before.before.before.before.before in
-    holds-unmarked known.before.args.s.now known.before.args.marks.now (omega arith) (λ i. omega (arith, known.shared-slice-known.given i)) _ _ _
+    holds_unmarked known.before.args.s.now known.before.args.marks.now (omega arith) (λ i. omega (arith, known.shared-slice-known.given i)) _ _ _
     c.before.before.before.shortest-register.ensures c.polynomial.ensures
 
 array-write-one : tie.Need-array-write-one
@@ -58,7 +58,7 @@ returns-2 : tie.Need-returns-2
 returns-2 c =
     let changed = c.before.before.before.before.before in
     let start = changed.before.before.before.before.before.before in
-    holds-changed start.args.s.now start.args.marks.now _ start.requires.2 (omega arith) (omega arith) _ _ (one-first 32)
+    holds_changed start.args.s.now start.args.marks.now _ start.requires.2 (omega arith) (omega arith) _ _ (one_first 32)
     changed.before.before.times-marks.ensures _ changed.changed.ensures _ _ _ c.before.before.before.shortest-register2.ensures c.polynomial2.ensures
 
 pub unmarked-locator-spec : {M : Type 1} → statement M

@@ -3,14 +3,14 @@ use mathlib.Core.Path.{refl, ◌≡◌}
 use Prim.Native.Nat.{◌≤◌, ◌-◌}
 use native.Mathlib.Omega.{arith}
 use borrow.Author.Rules.{rules}
-use Rattle.words.proofs.Arrays.{filled-starts}
-use Rattle.words.proofs.Coefficients.{byRoot-turn}
-use Rattle.words.specs.Working.{Filled, byRootAt}
+use Rattle.words.proofs.Arrays.{filled_starts}
+use Rattle.words.proofs.Coefficients.{by_root_turn}
+use Rattle.words.specs.Working.{Filled, by_root_at}
 use Rattle.words.proofs.polynomials.by_root.Statement.{statement}
 use Rattle.words.proofs.polynomials.by_root.Tie as tie
 
 abbrev invariant-loop : tie.invariant-loop
-invariant-loop p z moved out₀ j₀ out j = (j ≤ 33) × Filled (byRootAt z p) 33 out j
+invariant-loop p z moved out₀ j₀ out j = (j ≤ 33) × Filled (by_root_at z p) 33 out j
 
 abbrev decreases-loop : tie.decreases-loop
 decreases-loop p z moved out₀ j₀ out j = 33 - j
@@ -19,7 +19,7 @@ moved-up-requires : tie.Need-moved-up-requires invariant-loop decreases-loop
 moved-up-requires c κs = search rules
 
 loop-holds : tie.Need-loop-init invariant-loop decreases-loop
-loop-holds c = (omega arith, filled-starts _ 33 _ refl)
+loop-holds c = (omega arith, filled_starts _ 33 _ refl)
 
 element-copy-out-mul : tie.Need-element-copy-out-mul invariant-loop decreases-loop
 element-copy-out-mul c = search rules
@@ -40,7 +40,7 @@ loop-less : tie.Need-loop-smaller invariant-loop decreases-loop
 loop-less c = search rules
 
 loop-again : tie.Need-loop-preserved invariant-loop decreases-loop
-loop-again c = (omega arith, byRoot-turn _ _ _ _ _ _ c.before.before.before.loop.invariant.1 (omega arith) c.before.before.before.before.moved_up.ensures c.mul.ensures)
+loop-again c = (omega arith, by_root_turn _ _ _ _ _ _ c.before.before.before.loop.invariant.1 (omega arith) c.before.before.before.before.moved_up.ensures c.mul.ensures)
 
 returns : tie.Need-returns invariant-loop decreases-loop
 returns c =

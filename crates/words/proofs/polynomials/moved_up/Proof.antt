@@ -1,11 +1,11 @@
--- `moved_up` copies one coefficient after another, each k places up; below them zeros are left.
+-- `moved_up_lem` copies one coefficient after another, each k places up; below them zeros are left.
 use mathlib.Core.Path.{refl}
 use Prim.Native.Nat.{◌≤◌, ◌-◌}
 use native.Mathlib.Omega.{arith}
 use borrow.Author.Rules.{rules}
 use Rattle.codewords.specs.Polynomials.{shift_by}
 use Rattle.words.proofs.Arrays.{filled-less}
-use Rattle.words.proofs.Coefficients.{moved-starts, moved-turn}
+use Rattle.words.proofs.Coefficients.{moved_starts, moved_turn}
 use Rattle.words.specs.Working.{Filled, terms}
 use Rattle.words.proofs.polynomials.moved_up.Statement.{statement}
 use Rattle.words.proofs.polynomials.moved_up.Tie as tie
@@ -17,7 +17,7 @@ abbrev decreases-loop : tie.decreases-loop
 decreases-loop p k out₀ j₀ out j = 33 - j
 
 loop-holds : tie.Need-loop-init invariant-loop decreases-loop
-loop-holds c = (omega arith, moved-starts _ _)
+loop-holds c = (omega arith, moved_starts _ _)
 
 sub_out : tie.Need-overflow-sub-out invariant-loop decreases-loop
 sub_out c = search rules
@@ -35,7 +35,7 @@ loop-less : tie.Need-loop-smaller invariant-loop decreases-loop
 loop-less c = search rules
 
 loop-again : tie.Need-loop-preserved invariant-loop decreases-loop
-loop-again c = (omega arith, moved-turn _ _ _ _ _ c.before.before.loop.invariant.1 (omega arith) (omega arith) refl)
+loop-again c = (omega arith, moved_turn _ _ _ _ _ c.before.before.loop.invariant.1 (omega arith) (omega arith) refl)
 
 returns : tie.Need-returns invariant-loop decreases-loop
 returns c = filled-less _ _ _ _ 33 c.before.loop.invariant.1 (omega arith)

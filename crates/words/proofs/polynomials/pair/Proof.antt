@@ -6,7 +6,7 @@ use lib.ListN.{length, drop}
 use borrow.Author.Rules.{rules}
 use Rattle.field.specs.Field.{◌⊕◌}
 use Rattle.codewords.specs.Polynomials.{dot}
-use Rattle.words.proofs.Coefficients.{pair-starts, pair_turn, pair_ends}
+use Rattle.words.proofs.Coefficients.{pair_starts, pair_turn, pair_ends}
 use Rattle.words.specs.Working.{terms}
 use Rattle.words.proofs.polynomials.pair.Statement.{statement}
 use Rattle.words.proofs.polynomials.pair.Tie as tie
@@ -18,7 +18,7 @@ abbrev decreases-loop : tie.decreases-loop
 decreases-loop p s sum₀ j₀ j-end sum j = length p - j
 
 loop-holds : tie.Need-loop-init invariant-loop decreases-loop
-loop-holds c = (omega arith, omega arith, omega arith, pair-starts _ _)
+loop-holds c = (omega arith, omega arith, omega arith, pair_starts _ _)
 
 shared-slice-read-mul : tie.Need-shared-slice-read-mul invariant-loop decreases-loop
 shared-slice-read-mul c = search rules

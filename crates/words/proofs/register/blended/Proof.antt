@@ -4,19 +4,19 @@ use Prim.Native.Nat.{ℕ, ◌≤◌, ◌-◌}
 use native.Mathlib.Omega.{arith}
 use borrow.Author.Rules.{rules}
 use Rattle.field.specs.Field.{◌⊕◌}
-use Rattle.words.proofs.Arrays.{filled-starts, sum-turn}
-use Rattle.words.specs.Working.{Filled, blendedFrom}
+use Rattle.words.proofs.Arrays.{filled_starts, sum_turn}
+use Rattle.words.specs.Working.{Filled, blended_from}
 use Rattle.words.proofs.register.blended.Statement.{statement}
 use Rattle.words.proofs.register.blended.Tie as tie
 
 abbrev invariant-loop : tie.invariant-loop
-invariant-loop taps b kept from d out₀ j₀ out j = (j ≤ 32) × Filled (blendedFrom taps b kept from d) 32 out j
+invariant-loop taps b kept from d out₀ j₀ out j = (j ≤ 32) × Filled (blended_from taps b kept from d) 32 out j
 
 abbrev decreases-loop : tie.decreases-loop
 decreases-loop taps b kept from d out₀ j₀ out j = 32 - j
 
 loop-holds : tie.Need-loop-init invariant-loop decreases-loop
-loop-holds c = (omega arith, filled-starts _ 32 _ refl)
+loop-holds c = (omega arith, filled_starts _ 32 _ refl)
 
 element-copy-out-mul : tie.Need-element-copy-out-mul invariant-loop decreases-loop
 element-copy-out-mul c = search rules
@@ -43,8 +43,8 @@ loop-less : tie.Need-loop-smaller invariant-loop decreases-loop
 loop-less c = search rules
 
 loop-again : tie.Need-loop-preserved invariant-loop decreases-loop
-unfolding blendedFrom
-loop-again c = (omega arith, sum-turn _ _ _ _ _ _ c.before.before.before.before.before.loop.invariant.1 (omega arith) (ap₂ (λ (x y : ℕ). x ⊕ y) c.before.before.mul.ensures c.mul2.ensures))
+unfolding blended_from
+loop-again c = (omega arith, sum_turn _ _ _ _ _ _ c.before.before.before.before.before.loop.invariant.1 (omega arith) (ap₂ (λ (x y : ℕ). x ⊕ y) c.before.before.mul.ensures c.mul2.ensures))
 
 returns : tie.Need-returns invariant-loop decreases-loop
 returns c =

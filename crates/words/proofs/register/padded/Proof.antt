@@ -4,7 +4,7 @@ use Prim.Native.Nat.{◌≤◌, ◌-◌}
 use native.Mathlib.Omega.{arith}
 use lib.ListN.{length, get_or-eq_default}
 use borrow.Author.Rules.{rules}
-use Rattle.words.proofs.Arrays.{FilledBut, but-starts, but-turn, but-ends}
+use Rattle.words.proofs.Arrays.{FilledBut, but_starts, but_turn, but_ends}
 use Rattle.words.specs.Working.{terms}
 use Rattle.words.proofs.register.padded.Statement.{statement}
 use Rattle.words.proofs.register.padded.Tie as tie
@@ -17,7 +17,7 @@ decreases-loop s out₀ i₀ i-end out i = length s - i
 
 loop-holds : tie.Need-loop-init invariant-loop decreases-loop
 unfolding terms
-loop-holds c = (omega arith, omega arith, but-starts _ _ _ _ (λ i l. absurd (omega arith)) (λ i l _. get_or-eq_default c.args.s.now 0 l))
+loop-holds c = (omega arith, omega arith, but_starts _ _ _ _ (λ i l. absurd (omega arith)) (λ i l _. get_or-eq_default c.args.s.now 0 l))
 
 shared-slice-read-out : tie.Need-shared-slice-read-out invariant-loop decreases-loop
 shared-slice-read-out c = search rules
@@ -33,10 +33,10 @@ loop-less c = search rules
 
 loop-again : tie.Need-loop-preserved invariant-loop decreases-loop
 unfolding terms
-loop-again c = (omega arith, omega arith, but-turn _ _ _ _ _ _ _ _ _ c.before.before.loop.invariant.2 (omega arith) refl (λ i l n. omega arith) (λ i l n. l))
+loop-again c = (omega arith, omega arith, but_turn _ _ _ _ _ _ _ _ _ c.before.before.loop.invariant.2 (omega arith) refl (λ i l n. omega arith) (λ i l n. l))
 
 returns : tie.Need-returns invariant-loop decreases-loop
-returns c = but-ends _ _ _ _ _ c.before.loop.invariant.2 (omega arith)
+returns c = but_ends _ _ _ _ _ c.before.loop.invariant.2 (omega arith)
 
 pub padded-spec : {M : Type 1} → statement M
 padded-spec =

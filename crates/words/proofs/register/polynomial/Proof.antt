@@ -3,15 +3,15 @@ use mathlib.Core.Path.{◌≡◌, refl, sym}
 use Prim.Native.Nat.{◌≤◌, ◌<◌, ◌-◌, ◌+◌}
 use native.Mathlib.Omega.{arith}
 use borrow.Author.Rules.{rules}
-use Rattle.words.proofs.Arrays.{FilledBut, but-starts, but-turn, but-ends}
-use Rattle.words.proofs.FromTop.{from-top-low, from-top-past}
-use Rattle.words.proofs.RegisterTurns.{holds-polynomial}
-use Rattle.words.specs.Working.{fromTop}
+use Rattle.words.proofs.Arrays.{FilledBut, but_starts, but_turn, but_ends}
+use Rattle.words.proofs.FromTop.{from_top_low, from_top_past}
+use Rattle.words.proofs.RegisterTurns.{holds_polynomial}
+use Rattle.words.specs.Working.{from_top}
 use Rattle.words.proofs.register.polynomial.Statement.{statement}
 use Rattle.words.proofs.register.polynomial.Tie as tie
 
 abbrev invariant-loop : tie.invariant-loop
-invariant-loop taps len out₀ j₀ j-end out j = (j ≤ len + 1) × (j-end ≡ len + 1) × (len < 32) × FilledBut (fromTop taps len) 33 out j (len + 1)
+invariant-loop taps len out₀ j₀ j-end out j = (j ≤ len + 1) × (j-end ≡ len + 1) × (len < 32) × FilledBut (from_top taps len) 33 out j (len + 1)
 
 abbrev decreases-loop : tie.decreases-loop
 decreases-loop taps len out₀ j₀ j-end out j = len + 1 - j
@@ -23,7 +23,7 @@ add-j-end : tie.Need-overflow-add-j-end invariant-loop decreases-loop
 add-j-end c = search rules
 
 loop-holds : tie.Need-loop-init invariant-loop decreases-loop
-loop-holds c = (omega arith, omega arith, omega arith, but-starts _ _ _ _ (λ i l. absurd (omega arith)) (λ i l _. from-top-past _ _ i (omega arith)))
+loop-holds c = (omega arith, omega arith, omega arith, but_starts _ _ _ _ (λ i l. absurd (omega arith)) (λ i l _. from_top_past _ _ i (omega arith)))
 
 sub_out : tie.Need-overflow-sub-out invariant-loop decreases-loop
 sub_out c = search rules
@@ -41,10 +41,10 @@ loop-less : tie.Need-loop-smaller invariant-loop decreases-loop
 loop-less c = search rules
 
 loop-again : tie.Need-loop-preserved invariant-loop decreases-loop
-loop-again c = (omega arith, omega arith, omega arith, but-turn _ _ _ _ _ _ _ _ _ c.before.before.loop.invariant.3 (omega arith) (sym (from-top-low _ _ _ (omega arith))) (λ i l n. omega arith) (λ i l n. omega arith))
+loop-again c = (omega arith, omega arith, omega arith, but_turn _ _ _ _ _ _ _ _ _ c.before.before.loop.invariant.3 (omega arith) (sym (from_top_low _ _ _ (omega arith))) (λ i l n. omega arith) (λ i l n. omega arith))
 
 returns-2 : tie.Need-returns-2 invariant-loop decreases-loop
-returns-2 c = holds-polynomial _ _ _ (omega arith) (but-ends _ _ _ _ _ c.before.loop.invariant.3 (omega arith))
+returns-2 c = holds_polynomial _ _ _ (omega arith) (but_ends _ _ _ _ _ c.before.loop.invariant.3 (omega arith))
 
 pub polynomial-spec : {M : Type 1} → statement M
 polynomial-spec =

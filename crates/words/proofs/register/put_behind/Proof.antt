@@ -2,7 +2,7 @@
 use Prim.Native.Nat.{◌≤◌, ◌-◌}
 use native.Mathlib.Omega.{arith}
 use borrow.Author.Rules.{rules}
-use Rattle.words.proofs.RegisterTurns.{PutSoFar, put-starts, put-turn, put-ends}
+use Rattle.words.proofs.RegisterTurns.{PutSoFar, put_starts, put_turn, put_ends}
 use Rattle.words.proofs.register.put_behind.Statement.{statement}
 use Rattle.words.proofs.register.put_behind.Tie as tie
 
@@ -13,7 +13,7 @@ abbrev decreases-loop : tie.decreases-loop
 decreases-loop kept₀ row j₀ kept j = 32 - j
 
 loop-holds : tie.Need-loop-init invariant-loop decreases-loop
-loop-holds c = (omega arith, put-starts _ _)
+loop-holds c = (omega arith, put_starts _ _)
 
 element-copy-out-kept : tie.Need-element-copy-out-kept invariant-loop decreases-loop
 element-copy-out-kept c = search rules
@@ -31,13 +31,13 @@ loop-less : tie.Need-loop-smaller invariant-loop decreases-loop
 loop-less c = search rules
 
 loop-again : tie.Need-loop-preserved invariant-loop decreases-loop
-loop-again c = (omega arith, put-turn _ _ _ _ c.before.before.loop.invariant.1 (omega arith))
+loop-again c = (omega arith, put_turn _ _ _ _ c.before.before.loop.invariant.1 (omega arith))
 
 same_length : tie.Need-same-length invariant-loop decreases-loop
 same_length c = c.before.loop.invariant.1.size
 
 returns : tie.Need-returns invariant-loop decreases-loop
-returns c = put-ends _ _ _ _ c.before.loop.invariant.1 (omega arith)
+returns c = put_ends _ _ _ _ c.before.loop.invariant.1 (omega arith)
 
 pub put-behind-spec : {M : Type 1} → statement M
 put-behind-spec =

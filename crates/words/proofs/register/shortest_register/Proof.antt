@@ -5,7 +5,7 @@ use Prim.Native.Nat.{◌≤◌, ◌-◌}
 use native.Mathlib.Omega.{arith}
 use lib.ListN.{length}
 use borrow.Author.Rules.{rules}
-use Rattle.words.proofs.RegisterTurns.{Turned, turned-start, holds-len, turned_as, turn-keep, turn-same, turn-grow}
+use Rattle.words.proofs.RegisterTurns.{Turned, turned-start, holds_len, turned_as, turn_keep, turn_same, turn_grow}
 use Rattle.words.specs.Working.{terms}
 use Rattle.words.proofs.register.shortest_register.Statement.{statement}
 use Rattle.words.proofs.register.shortest_register.Tie as tie
@@ -50,7 +50,7 @@ blended-requires-2 : tie.Need-blended-requires-2 invariant-loop decreases-loop
 blended-requires-2 c κs = omega (arith, c.before.before.before.before.before.before.before.loop.invariant.2.earlier.low)
 
 add-if2 : tie.Need-overflow-add-if2 invariant-loop decreases-loop
-add-if2 c = omega (arith, holds-len _ _ _ _ c.before.before.before.before.before.before.before.before.loop.invariant.2.holds)
+add-if2 c = omega (arith, holds_len _ _ _ _ c.before.before.before.before.before.before.before.before.loop.invariant.2.holds)
 
 sub-from-2 : tie.Need-overflow-sub-from-2 invariant-loop decreases-loop
 sub-from-2 c = omega (arith, c.before.before.before.before.before.before.before.before.before.loop.invariant.2.enough)
@@ -84,10 +84,10 @@ loop-again c = (
   omega arith,
   omega arith,
   ⊎_elim
-      (λ w. turned_as _ _ (turn-keep _ _ _ _ _ _ _ _ _ c.before.before.loop.invariant.2 (omega arith) _ refl w.0.taken) w.1 w.2 w.3 w.4 w.5 w.6 w.7)
+      (λ w. turned_as _ _ (turn_keep _ _ _ _ _ _ _ _ _ c.before.before.loop.invariant.2 (omega arith) _ refl w.0.taken) w.1 w.2 w.3 w.4 w.5 w.6 w.7)
       (⊎_elim
-      (λ w. turned_as _ _ (turn-same _ _ _ _ _ _ _ _ _ c.before.before.loop.invariant.2 (omega arith) _ refl w.0.left _ _ w.3.ensures w.6.ensures w.7.taken) w.8 w.9 w.10 w.11 w.12 w.13 w.14)
-      (λ w. turned_as _ _ (turn-grow _ _ _ _ _ _ _ _ _ c.before.before.loop.invariant.2 (omega arith) _ refl w.0.left _ _ w.3.ensures w.6.ensures (omega (arith, w.7.left)) _ _ w.10.ensures w.14.ensures) w.16 w.17 w.18 w.19 (omega (arith, w.20)) w.21 w.22))
+      (λ w. turned_as _ _ (turn_same _ _ _ _ _ _ _ _ _ c.before.before.loop.invariant.2 (omega arith) _ refl w.0.left _ _ w.3.ensures w.6.ensures w.7.taken) w.8 w.9 w.10 w.11 w.12 w.13 w.14)
+      (λ w. turned_as _ _ (turn_grow _ _ _ _ _ _ _ _ _ c.before.before.loop.invariant.2 (omega arith) _ refl w.0.left _ _ w.3.ensures w.6.ensures (omega (arith, w.7.left)) _ _ w.10.ensures w.14.ensures) w.16 w.17 w.18 w.19 (omega (arith, w.20)) w.21 w.22))
       c.if1.branch,
 )
 

@@ -4,7 +4,7 @@ use mathlib.Core.Logic.{⊎_elim}
 use Prim.Native.Nat.{◌-◌, ◌≤◌}
 use native.Mathlib.Omega.{arith}
 use borrow.Author.Rules.{rules}
-use Rattle.words.proofs.RootsFound.{value-is, roots-start, roots-none, roots-more}
+use Rattle.words.proofs.RootsFound.{value_is, roots_start, roots_none, roots_more}
 use Rattle.words.specs.Working.{HoldsRoots}
 use Rattle.words.proofs.roots.find_roots.Statement.{statement}
 use Rattle.words.proofs.roots.find_roots.Tie as tie
@@ -22,7 +22,7 @@ no-roots-requires : tie.Need-no-roots-requires invariant-loop decreases-loop
 no-roots-requires c κs = search rules
 
 loop-holds : tie.Need-loop-init invariant-loop decreases-loop
-loop-holds c = (omega arith, roots-start _ _ _ c.no-roots.ensures.0 c.no-roots.ensures.1)
+loop-holds c = (omega arith, roots_start _ _ _ c.no-roots.ensures.0 c.no-roots.ensures.1)
 
 array-read-if1 : tie.Need-array-read-if1 invariant-loop decreases-loop
 array-read-if1 c = search rules
@@ -39,11 +39,11 @@ loop-less c = search rules
 loop-again : tie.Need-loop-preserved invariant-loop decreases-loop
 loop-again c =
     let now = c.before.before.loop in
-    let value = value-is _ _ now.power c.before.before.before.before.values-everywhere.ensures (omega arith) in (
+    let value = value_is _ _ now.power c.before.before.before.before.values-everywhere.ensures (omega arith) in (
       omega arith,
       ⊎_elim
-          (λ w. rw w.2 (rw (w.1.ensures.count-is, w.1.ensures.powers-are) (roots-more _ _ _ _ now.invariant.1 (sym value ∙ w.0.taken))))
-          (λ w. rw w.1 (roots-none _ _ _ _ now.invariant.1 (λ e. w.0.left (value ∙ e))))
+          (λ w. rw w.2 (rw (w.1.ensures.count-is, w.1.ensures.powers-are) (roots_more _ _ _ _ now.invariant.1 (sym value ∙ w.0.taken))))
+          (λ w. rw w.1 (roots_none _ _ _ _ now.invariant.1 (λ e. w.0.left (value ∙ e))))
           c.if1.branch,
     )
 

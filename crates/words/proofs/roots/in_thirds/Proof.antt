@@ -4,7 +4,7 @@ use Prim.Native.Nat.{◌*◌, ◌≤◌}
 use native.Mathlib.Omega.{arith}
 use lib.ListN.{drop}
 use borrow.Author.Rules.{rules}
-use Rattle.words.proofs.Thirds.{thirds-start, thirds-turn}
+use Rattle.words.proofs.Thirds.{thirds_start, thirds_turn}
 use Rattle.words.specs.Working.{InThirds}
 use Rattle.words.proofs.roots.in_thirds.Statement.{statement}
 use Rattle.words.proofs.roots.in_thirds.Tie as tie
@@ -16,7 +16,7 @@ abbrev decreases-loop : tie.decreases-loop
 decreases-loop lambda parts points first₀ second₀ third₀ j₀ first second third j = j
 
 loop-holds : tie.Need-loop-init invariant-loop decreases-loop
-loop-holds c = (omega arith, thirds-start c.before.args.lambda.now _ _ c.before.requires.0)
+loop-holds c = (omega arith, thirds_start c.before.args.lambda.now _ _ c.before.requires.0)
 
 sub-j : tie.Need-overflow-sub-j invariant-loop decreases-loop
 sub-j c = search rules
@@ -61,7 +61,7 @@ loop-again : tie.Need-loop-preserved invariant-loop decreases-loop
 loop-again c =
     let now = c.before.before.before.before.before.before.before.before.before.before.loop in (
       omega arith,
-      thirds-turn _ _ _ _ _ _ _ _ now.j _ (omega arith) refl now.invariant.1 c.before.before.before.before.before.before.with-symbol.ensures c.before.before.before.with-symbol2.ensures c.with-symbol3.ensures,
+      thirds_turn _ _ _ _ _ _ _ _ now.j _ (omega arith) refl now.invariant.1 c.before.before.before.before.before.before.with-symbol.ensures c.before.before.before.with-symbol2.ensures c.with-symbol3.ensures,
     )
 
 returns : tie.Need-returns invariant-loop decreases-loop

@@ -3,7 +3,7 @@ use mathlib.Core.Path.{◌≡◌}
 use Prim.Native.Nat.{◌-◌, ◌≤◌}
 use native.Mathlib.Omega.{arith}
 use borrow.Author.Rules.{rules}
-use Rattle.words.proofs.Thirds.{joined-starts, joined-turn}
+use Rattle.words.proofs.Thirds.{joined_starts, joined_turn}
 use Rattle.words.specs.Working.{Joined}
 use Rattle.words.proofs.roots.joined.Statement.{statement}
 use Rattle.words.proofs.roots.joined.Tie as tie
@@ -15,7 +15,7 @@ abbrev decreases-loop : tie.decreases-loop
 decreases-loop z square a second third here₀ further₀ furthest₀ i₀ here further furthest i = 16 - i
 
 loop-holds : tie.Need-loop-init invariant-loop decreases-loop
-loop-holds c = (omega arith, joined-starts _ _ _ _ _)
+loop-holds c = (omega arith, joined_starts _ _ _ _ _)
 
 element-copy-out-mul : tie.Need-element-copy-out-mul invariant-loop decreases-loop
 element-copy-out-mul c = search rules
@@ -59,7 +59,7 @@ loop-less c = search rules
 loop-again : tie.Need-loop-preserved invariant-loop decreases-loop
 loop-again c =
     let now = c.before.before.before.before.before.before.loop in
-    (omega arith, joined-turn now.i _ _ _ now.invariant.1 (omega arith) c.before.before.before.mul.ensures c.before.mul2.ensures c.mul3.ensures)
+    (omega arith, joined_turn now.i _ _ _ now.invariant.1 (omega arith) c.before.before.before.mul.ensures c.before.mul2.ensures c.mul3.ensures)
 
 returns : tie.Need-returns invariant-loop decreases-loop
 returns c =

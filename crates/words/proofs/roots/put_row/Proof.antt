@@ -3,7 +3,7 @@ use mathlib.Core.Path.{◌≡◌}
 use Prim.Native.Nat.{◌-◌, ◌≤◌}
 use native.Mathlib.Omega.{arith}
 use borrow.Author.Rules.{rules}
-use Rattle.words.proofs.Thirds.{PutSoFar, put-starts, put-turn, put-ends}
+use Rattle.words.proofs.Thirds.{PutSoFar, put_starts, put_turn, put_ends}
 use Rattle.words.proofs.roots.put_row.Statement.{statement}
 use Rattle.words.proofs.roots.put_row.Tie as tie
 
@@ -14,7 +14,7 @@ abbrev decreases-loop : tie.decreases-loop
 decreases-loop values₀ at row i₀ values i = 16 - i
 
 loop-holds : tie.Need-loop-init invariant-loop decreases-loop
-loop-holds c = (omega arith, put-starts _ _ _)
+loop-holds c = (omega arith, put_starts _ _ _)
 
 element-copy-out-values : tie.Need-element-copy-out-values invariant-loop decreases-loop
 element-copy-out-values c = search rules
@@ -32,7 +32,7 @@ loop-less : tie.Need-loop-smaller invariant-loop decreases-loop
 loop-less c = search rules
 
 loop-again : tie.Need-loop-preserved invariant-loop decreases-loop
-loop-again c = (omega arith, put-turn _ _ _ _ _ c.before.before.loop.invariant.1 (omega arith))
+loop-again c = (omega arith, put_turn _ _ _ _ _ c.before.before.loop.invariant.1 (omega arith))
 
 same_length : tie.Need-same-length invariant-loop decreases-loop
 same_length c = search rules
@@ -40,7 +40,7 @@ same_length c = search rules
 returns : tie.Need-returns invariant-loop decreases-loop
 returns c =
     let whole : c.before.loop.i ≡ 16 = omega arith in
-    put-ends _ _ _ _ (rw whole at c.before.loop.invariant.1)
+    put_ends _ _ _ _ (rw whole at c.before.loop.invariant.1)
 
 pub put-row-spec : {M : Type 1} → statement M
 put-row-spec =

@@ -1,6 +1,6 @@
 -- `values_at` has the parts of lambda at the cubes, and from them three values in each place.
 use borrow.Author.Rules.{rules}
-use Rattle.words.proofs.Thirds.{values-three}
+use Rattle.words.proofs.Thirds.{values_three}
 use Rattle.words.proofs.roots.values_at.Statement.{statement}
 use Rattle.words.proofs.roots.values_at.Tie as tie
 
@@ -23,7 +23,7 @@ returns : tie.Need-returns
 returns c =
     let parts = c.before.before.before.before.before.before.before in
     let start = parts.before.before.before.before.before in
-    values-three
+    values_three
     start.args.at
     parts.in-thirds.ensures
     start.requires.2

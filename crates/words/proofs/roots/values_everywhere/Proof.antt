@@ -3,7 +3,7 @@ use mathlib.Core.Path.{◌≡◌, refl}
 use Prim.Native.Nat.{◌-◌, ◌*◌, ◌≤◌}
 use native.Mathlib.Omega.{arith}
 use borrow.Author.Rules.{rules}
-use Rattle.words.proofs.Thirds.{RowsPut, rows_start, rows-turn, rows_end}
+use Rattle.words.proofs.Thirds.{RowsPut, rows_start, rows_turn, rows_end}
 use Rattle.words.proofs.roots.values_everywhere.Statement.{statement}
 use Rattle.words.proofs.roots.values_everywhere.Tie as tie
 
@@ -65,7 +65,7 @@ loop-again : tie.Need-loop-preserved invariant-loop decreases-loop
 loop-again c =
     let found = c.before.before.before.before.before.before.before.before.before.before.before.before.before.before.before in (
       omega arith,
-      rows-turn
+      rows_turn
           _
           _
           (omega arith)

@@ -10,7 +10,7 @@ add-t6 : tie.Need-overflow-add-t6
 add-t6 c = search rules
 
 returns : tie.Need-returns
-returns c = record { count-is = refl; powers-are = sym (set_out _ _ _ (omega arith)) }
+returns c = record { count_is = refl; powers_are = sym (set_out _ _ _ (omega arith)) }
 
 cast-powers : tie.Need-overflow-cast-powers
 cast-powers c = search rules

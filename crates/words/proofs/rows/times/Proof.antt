@@ -3,20 +3,20 @@ use mathlib.Core.Path.{refl, ◌≡◌}
 use Prim.Native.Nat.{◌≤◌, ◌-◌}
 use native.Mathlib.Omega.{arith}
 use borrow.Author.Rules.{rules}
-use Rattle.words.proofs.Arrays.{filled-starts}
-use Rattle.words.proofs.RowTurns.{times-turn}
-use Rattle.words.specs.Working.{Filled, productAt}
+use Rattle.words.proofs.Arrays.{filled_starts}
+use Rattle.words.proofs.RowTurns.{times_turn}
+use Rattle.words.specs.Working.{Filled, product_at}
 use Rattle.words.proofs.rows.times.Statement.{statement}
 use Rattle.words.proofs.rows.times.Tie as tie
 
 abbrev invariant-loop : tie.invariant-loop
-invariant-loop a b out₀ i₀ out i = (i ≤ 16) × Filled (productAt a b) 16 out i
+invariant-loop a b out₀ i₀ out i = (i ≤ 16) × Filled (product_at a b) 16 out i
 
 abbrev decreases-loop : tie.decreases-loop
 decreases-loop a b out₀ i₀ out i = 16 - i
 
 loop-holds : tie.Need-loop-init invariant-loop decreases-loop
-loop-holds c = (omega arith, filled-starts _ 16 _ refl)
+loop-holds c = (omega arith, filled_starts _ 16 _ refl)
 
 element-copy-out-mul : tie.Need-element-copy-out-mul invariant-loop decreases-loop
 element-copy-out-mul c = search rules
@@ -37,7 +37,7 @@ loop-less : tie.Need-loop-smaller invariant-loop decreases-loop
 loop-less c = search rules
 
 loop-again : tie.Need-loop-preserved invariant-loop decreases-loop
-loop-again c = (omega arith, times-turn _ _ _ _ _ c.before.before.before.before.loop.invariant.1 (omega arith) c.mul.ensures)
+loop-again c = (omega arith, times_turn _ _ _ _ _ c.before.before.before.before.loop.invariant.1 (omega arith) c.mul.ensures)
 
 returns : tie.Need-returns invariant-loop decreases-loop
 returns c =

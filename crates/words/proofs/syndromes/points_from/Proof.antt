@@ -3,20 +3,20 @@ use mathlib.Core.Path.{refl, ◌≡◌}
 use Prim.Native.Nat.{◌≤◌, ◌-◌}
 use native.Mathlib.Omega.{arith}
 use borrow.Author.Rules.{rules}
-use Rattle.words.proofs.Arrays.{filled-starts}
-use Rattle.words.proofs.RowTurns.{later-turn}
-use Rattle.words.specs.Working.{Filled, laterAt}
+use Rattle.words.proofs.Arrays.{filled_starts}
+use Rattle.words.proofs.RowTurns.{later_turn}
+use Rattle.words.specs.Working.{Filled, later_at}
 use Rattle.words.proofs.syndromes.points_from.Statement.{statement}
 use Rattle.words.proofs.syndromes.points_from.Tie as tie
 
 abbrev invariant-loop : tie.invariant-loop
-invariant-loop list from out₀ i₀ out i = (i ≤ 32) × Filled (laterAt list from) 32 out i
+invariant-loop list from out₀ i₀ out i = (i ≤ 32) × Filled (later_at list from) 32 out i
 
 abbrev decreases-loop : tie.decreases-loop
 decreases-loop list from out₀ i₀ out i = 32 - i
 
 loop-holds : tie.Need-loop-init invariant-loop decreases-loop
-loop-holds c = (omega arith, filled-starts _ 32 _ refl)
+loop-holds c = (omega arith, filled_starts _ 32 _ refl)
 
 add-out : tie.Need-overflow-add-out invariant-loop decreases-loop
 add-out c = search rules
@@ -34,7 +34,7 @@ loop-less : tie.Need-loop-smaller invariant-loop decreases-loop
 loop-less c = search rules
 
 loop-again : tie.Need-loop-preserved invariant-loop decreases-loop
-loop-again c = (omega arith, later-turn _ _ _ _ c.before.before.loop.invariant.1 (omega arith))
+loop-again c = (omega arith, later_turn _ _ _ _ c.before.before.loop.invariant.1 (omega arith))
 
 returns : tie.Need-returns invariant-loop decreases-loop
 returns c =

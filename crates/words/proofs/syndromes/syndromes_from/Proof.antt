@@ -4,9 +4,9 @@ use Prim.Native.Nat.{◌≤◌, ◌-◌}
 use native.Mathlib.Omega.{arith}
 use lib.ListN.{length}
 use borrow.Author.Rules.{rules}
-use Rattle.codewords.proofs.WordValues.{octets-of}
-use Rattle.words.proofs.RowTurns.{later-is}
-use Rattle.words.proofs.WordSums.{Summed, summed-starts, summed_turn, summed-ends}
+use Rattle.codewords.proofs.WordValues.{octets_of_lem}
+use Rattle.words.proofs.RowTurns.{later_is}
+use Rattle.words.proofs.WordSums.{Summed, summed_starts, summed_turn, summed_ends}
 use Rattle.words.proofs.syndromes.syndromes_from.Statement.{statement}
 use Rattle.words.proofs.syndromes.syndromes_from.Tie as tie
 
@@ -26,7 +26,7 @@ points-from-requires : tie.Need-points-from-requires invariant-loop decreases-lo
 points-from-requires c κs = omega (arith, c.before.locators.ensures.size)
 
 loop-holds : tie.Need-loop-init invariant-loop decreases-loop
-loop-holds c = (omega arith, omega arith, summed-starts _ _)
+loop-holds c = (omega arith, omega arith, summed_starts _ _)
 
 shared-slice-read-with-next : tie.Need-shared-slice-read-with-next invariant-loop decreases-loop
 shared-slice-read-with-next c = search rules
@@ -44,13 +44,13 @@ loop-again : tie.Need-loop-preserved invariant-loop decreases-loop
 loop-again c =
     let before = c.before.before.before.before.before.loop in
     let listed = c.before.before.before.before.before.before.before.before.locators.ensures in
-    (omega arith, omega arith, summed_turn _ _ _ _ _ _ _ before.invariant.2 (omega arith) (later-is _ _ _ _ _ _ listed (omega arith) c.before.before.before.before.before.before.points-from.ensures) refl c.with-next.ensures)
+    (omega arith, omega arith, summed_turn _ _ _ _ _ _ _ before.invariant.2 (omega arith) (later_is _ _ _ _ _ _ listed (omega arith) c.before.before.before.before.before.before.points-from.ensures) refl c.with-next.ensures)
 
 returns : tie.Need-returns invariant-loop decreases-loop
 returns c =
     let known = c.before.before.before.before.before in
-    summed-ends _ known.before.args.word.now _ c.before.loop.j c.before.loop.invariant.2 (omega arith)
-    (octets-of known.before.args.word.now (λ i. omega (arith, known.shared-slice-known.given i)))
+    summed_ends _ known.before.args.word.now _ c.before.loop.j c.before.loop.invariant.2 (omega arith)
+    (octets_of_lem known.before.args.word.now (λ i. omega (arith, known.shared-slice-known.given i)))
 
 pub syndromes-from-spec : {M : Type 1} → statement M
 syndromes-from-spec =

@@ -3,7 +3,7 @@ use mathlib.Core.Path.{sym}
 use native.Mathlib.Omega.{arith}
 use lib.Seq.{length-take-le}
 use borrow.Author.Rules.{rules}
-use Rattle.words.proofs.WordSums.{values-behind-zeros}
+use Rattle.words.proofs.WordSums.{values_behind_zeros}
 use Rattle.words.proofs.syndromes.syndromes_of.Statement.{statement}
 use Rattle.words.proofs.syndromes.syndromes_of.Tie as tie
 
@@ -39,7 +39,7 @@ syndromes-from-requires c κs = search rules
 
 returns : tie.Need-returns
 returns c =
-    values-behind-zeros _ _ c.before.before.before.before.before.before.args.sent.now _ _ (omega arith) c.before.before.before.before.zeros-before.ensures.1
+    values_behind_zeros _ _ c.before.before.before.before.before.before.args.sent.now _ _ (omega arith) c.before.before.before.before.zeros-before.ensures.1
     c.before.before.conventional.ensures c.syndromes-from.ensures
 
 pub syndromes-of-spec : {M : Type 1} → statement M
