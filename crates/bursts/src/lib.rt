@@ -1,1 +1,2 @@
 // The burst figure: definitions and laws only, no code.
+#![tactic(auto)]

@@ -1,4 +1,6 @@
 // The chains: a frame made into a marked block, and a marked block made into its frame again.
+#![tactic(auto)]
+
 mod blocks;
 mod receiver;
 mod transmitter;

@@ -1,1 +1,2 @@
 // Words and codewords: definitions and laws only.
+#![tactic(auto)]

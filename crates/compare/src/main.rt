@@ -1,5 +1,7 @@
 // Long codewords at both strengths, all depths and several fills, encoded, damaged and decoded. The expected output is not made by
 // this code: docs/src/README.md says where it comes from.
+#![tactic(auto)]
+
 ghost use Rattle.std.specs.Prelude.{◌≤◌};
 
 mod calls;

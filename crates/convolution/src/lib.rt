@@ -1,4 +1,6 @@
 // The convolutional coder, which runs on from call to call until it is closed.
+#![tactic(auto)]
+
 mod groups;
 mod octet;
 mod pairs;

@@ -1,4 +1,6 @@
 // The encoder, with interleaving and virtual fill.
+#![tactic(auto)]
+
 mod encoder;
 mod steps;
 mod table_16;

@@ -1,1 +1,2 @@
 // The worked examples of document 01: a table and its one statement, no code.
+#![tactic(auto)]

@@ -1,4 +1,6 @@
 // The field of 256 elements, and the two ways to write a symbol.
+#![tactic(auto)]
+
 mod arithmetic;
 mod representations;
 

@@ -1,4 +1,6 @@
 // Encoding of a frame that comes in portions.
+#![tactic(auto)]
+
 mod piecewise;
 
 pub use piecewise::{close, held_rows, octet_rows, portion, start};

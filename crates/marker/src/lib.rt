@@ -1,4 +1,6 @@
 // The attached sync marker: its test and its search.
+#![tactic(auto)]
+
 mod lanes;
 mod searching;
 mod table;

@@ -1,4 +1,6 @@
 // The pseudo-randomiser: the sequence's register, and a block randomised in place.
+#![tactic(auto)]
+
 mod blocks;
 mod sequence;
 

@@ -1,4 +1,6 @@
 // Decoding of blocks of interleaved words, and salvage of those that cannot be decoded whole.
+#![tactic(auto)]
+
 mod decoder;
 mod finding;
 mod listing;

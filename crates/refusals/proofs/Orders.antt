@@ -61,11 +61,11 @@ pub not_different : (m n : ℕ) → ((m ≢ n) → ⊥) → m ≡ n
 not_different m n d = elim (ℕ_discrete m n) [ yes e ↦ e | no x ↦ absurd (d x) ]
 
 -- The flag of a negated test.
-pub denied : (flag : Bool) (fact : Type 0) → not flag ≡ true → Tells flag fact → fact → ⊥
+pub denied : (flag : Bool) (fact : Type 0) → flag ≡ false → Tells flag fact → fact → ⊥
 denied false fact e t = t
 denied true fact e t = let z : ◌≡◌ {A = ℕ} 0 1 = cc in absurd (omega arith)
 
-pub granted : (flag : Bool) (fact : Type 0) → not flag ≡ false → Tells flag fact → fact
+pub granted : (flag : Bool) (fact : Type 0) → flag ≡ true → Tells flag fact → fact
 granted true fact e t = t
 granted false fact e t = let z : ◌≡◌ {A = ℕ} 0 1 = cc in absurd (omega arith)
 

@@ -1,4 +1,6 @@
 // The refusals of documents 01 and 02: their names and numbers, and the checks of parameters and lengths that the calls share.
+#![tactic(auto)]
+
 mod checks;
 mod coder;
 mod likeliest;

@@ -1,4 +1,6 @@
 // The report over empty input.
+#![tactic(auto)]
+
 use libc::{STDERR_FILENO, STDIN_FILENO, STDOUT_FILENO};
 
 // A read that fails leaves a short piece, as the end of the input does: one more read tells them apart.

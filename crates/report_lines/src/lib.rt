@@ -1,4 +1,6 @@
 // The lines of the report program, as octets.
+#![tactic(auto)]
+
 mod spelling;
 mod texts;
 

@@ -1,4 +1,6 @@
 // What the report writes of each piece of its input: the line of a whole block, or the closing lines.
+#![tactic(auto)]
+
 ghost use Rattle.std.specs.Prelude.{◌≡◌};
 ghost use Rattle.report_pieces.specs.Pieces.{refused_line, delivered_line, answered_line, BlockReported, PieceOutcome};
 

@@ -1,5 +1,7 @@
 // Runs the coders on the documents' tables, on worked cases, at every limit and one past it. The expected output is not
 // made by this code: docs/src/README.md says where each line comes from.
+#![tactic(auto)]
+
 mod calls;
 mod chaining;
 mod coding;

@@ -1,4 +1,6 @@
 // The decoder of the convolutional code at rate 1/2: of all inputs the one whose symbols differ from the received ones in the fewest places.
+#![tactic(auto)]
+
 mod back;
 mod costs;
 mod steps;

@@ -1,4 +1,6 @@
 // The decoder of one word.
+#![tactic(auto)]
+
 mod decoder;
 mod errors;
 mod inverses;
