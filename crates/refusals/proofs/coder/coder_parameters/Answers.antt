@@ -6,9 +6,10 @@ use Rattle.refusals.specs.Order.{OneOf}
 use Rattle.refusals.specs.Sizes.{rates}
 use Rattle.refusals.proofs.Orders.{denied, granted}
 use Rattle.refusals.proofs.coder.coder_parameters.Goals as goal
+use Rattle.refusals.proofs.coder.coder_parameters.Goals.{After-period_of}
 
 -- The period was asked for of a legal rate.
-legal : (c : goal.After-period_of) → OneOf rates c.args.rate
+legal : (c : After-period_of) → OneOf rates c.args.rate
 legal c = granted c.rate_legal.result (OneOf rates _) c.if-not-rate_legal.false c.rate_legal.ensures
 
 pub returns-then-not-rate_legal : goal.returns-then-not-rate_legal

@@ -9,15 +9,16 @@ use Rattle.refusals.specs.Working.{coder_parameters}
 use Rattle.refusals.proofs.Legal.{accepted_coder}
 use Rattle.refusals.proofs.Verdicts.{passed, stopped, after_coder}
 use Rattle.refusals.proofs.coder.convolve_parameters.Goals as goal
+use Rattle.refusals.proofs.coder.convolve_parameters.Goals.{After-symbols_of, In_default}
 
 -- Check 7 has passed.
-legal : (c : goal.In_default) → FirstOf (coder_parameters c.args.rate c.args.register c.args.place c.args.holds) 0
+legal : (c : In_default) → FirstOf (coder_parameters c.args.rate c.args.register c.args.place c.args.holds) 0
 legal c =
     let coder = c.coder_parameters-coder in
     passed (coder_parameters _ _ _ _) coder.result c.in_default.is coder.ensures
 
 -- The octets that the symbols fill, as they were counted.
-filled : (c : goal.After-symbols_of) → (c.args.holds + c.symbols_of.result) / 8
+filled : (c : After-symbols_of) → (c.args.holds + c.symbols_of.result) / 8
     ≡ (c.args.holds + symbol_count c.args.rate c.args.place c.args.octets) / 8
 filled c = ap (λ (n : ℕ). (c.args.holds + n) / 8) c.symbols_of.ensures.0
 
