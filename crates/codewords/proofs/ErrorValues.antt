@@ -31,6 +31,7 @@ only_away p x [] o a = tt
 only_away p x (e ∷ es) o a = (o.0 a.0, only_away p x es o.1 a.1)
 
 away_in : (x : ℕ) (e : ℕ × ℕ) (es : Pattern) → Away x es → In e es → x ≢ e.1
+away_in x e [] a i = elim i [ ]
 away_in x e (_ ∷ es) a here = a.0
 away_in x e (f ∷ es) a (there i) = away_in x e es a.1 i
 
@@ -42,6 +43,7 @@ skip p f es i e = ap (λ (x : ℕ). (f.0 · x) · pow f.1 i ⊕ syndrome_of (tim
     alg y t u = simp ring
 
 single : (p : List ℕ) (e : ℕ × ℕ) (es : Pattern) → Proper es → In e es → Only p e.1 es → syndrome_of (times p es) 0 ≡ e.0 · eval p e.1
+single p e [] g i o = elim i [ ]
 single p e (_ ∷ es) g here o = rooted_head p e es (only_away p e.1 es o.1 g.2)
 single p e (f ∷ es) g (there i) o = skip p f es 0 (o.0 (λ q. away_in f.1 e es g.2 i (sym q))) ∙ single p e es g.3 i o.1
 
@@ -55,10 +57,12 @@ quot_only p x (e ∷ es) o h z g r = (
 )
 
 pub in_root : (p : List ℕ) (e : ℕ × ℕ) (es : Pattern) → In e es → Rooted p es → eval p e.1 ≡ 0
+in_root p e [] i r = elim i [ ]
 in_root p e (_ ∷ es) here r = r.0
 in_root p e (f ∷ es) (there i) r = in_root p e es i r.1
 
 in_proper : (e : ℕ × ℕ) (es : Pattern) → In e es → Proper es → (e.0 < 256) × (e.1 < 256)
+in_proper e [] i g = elim i [ ]
 in_proper e (_ ∷ es) here g = (g.0, g.1)
 in_proper e (f ∷ es) (there i) g = in_proper e es i g.3
 
@@ -69,6 +73,7 @@ all_zeros p x (e ∷ es) o z =
     (elim (ℕ_discrete x e.1) [ yes q ↦ ap (eval p) (sym q) ∙ z | no n ↦ o.0 n ], all_zeros p x es o.1 z)
 
 pub in_length : (e : ℕ × ℕ) (es : Pattern) → In e es → 0 < length es
+in_length e [] i = elim i [ ]
 in_length e (_ ∷ es) here = omega arith
 in_length e (f ∷ es) (there i) = omega arith
 
