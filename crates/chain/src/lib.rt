@@ -10,7 +10,7 @@ use refusals::{MarkerRefusal, Parameter, WordRefusal};
 pub use transmitter::transmit;
 
 // The stage of receive that refused, with its own refusal.
-#[derive(Drop)]
+#[derive(Clone, Copy)]
 pub enum Stage {
     Parameters(Parameter),
     Marker(MarkerRefusal),
@@ -18,14 +18,14 @@ pub enum Stage {
 }
 
 // Receive's answer.
-#[derive(Drop)]
+#[derive(Clone, Copy)]
 pub enum Received {
     Delivered,
     Refused(Stage),
 }
 
 // The answer, with decode's report, zero on a refusal, and whether a delivered block was inverted.
-#[derive(Drop)]
+#[derive(Clone, Copy)]
 pub struct Reception {
     pub answer: Received,
     pub total: u32,

@@ -4,7 +4,7 @@ ghost use Rattle.std.specs.Prelude.{◌≤◌, ◌<◌};
 use crate::data::turn;
 
 // How the number of wrong symbols of a word goes by the word.
-#[derive(Drop)]
+#[derive(Clone, Copy)]
 pub(crate) enum Damage {
     None,
     Mixed,

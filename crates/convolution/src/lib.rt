@@ -19,7 +19,7 @@ use writing::{last_octet, top_bits};
 
 // What the coder carries from call to call: the last six bits, the newest lowest; the place in the puncture period; how many symbols are
 // held, 0 to 7; and those symbols, top bit first. All zero at the start.
-#[derive(Drop)]
+#[derive(Clone, Copy)]
 pub struct State {
     pub register: u8,
     pub place: u8,
@@ -27,14 +27,14 @@ pub struct State {
     pub held: u8,
 }
 
-#[derive(Drop)]
+#[derive(Clone, Copy)]
 pub enum Convolved {
     // The number of symbols.
     Done(u32),
     Refused(Parameter),
 }
 
-#[derive(Drop)]
+#[derive(Clone, Copy)]
 pub struct Ran {
     pub answer: Convolved,
     pub state: State,
@@ -42,7 +42,7 @@ pub struct Ran {
 
 // What it carries from bit to bit: the same, but the held symbols, up to 23 of them, with the newest lowest. Bits of `held` above
 // the `holds` lowest mean nothing.
-#[derive(Drop)]
+#[derive(Clone, Copy)]
 struct Flow {
     register: u32,
     place: usize,
@@ -51,7 +51,7 @@ struct Flow {
 }
 
 // And within an octet, from one bit that begins a period to the next: the bits not yet in, and those of them before the next such bit.
-#[derive(Drop)]
+#[derive(Clone, Copy)]
 struct Picking {
     held: u32,
     holds: usize,
@@ -60,7 +60,7 @@ struct Picking {
 }
 
 // Where a call stands: its state, how many octets are read, and how many written.
-#[derive(Drop)]
+#[derive(Clone, Copy)]
 struct Progress {
     flow: Flow,
     read: usize,
@@ -70,7 +70,7 @@ struct Progress {
 // A group of octets that is whole periods, and whole octets of symbols: how many octets it is, how many its symbols fill, and, a bit for each of its own,
 // of which C1 is the last symbol sent, of which C2, and which begin a period, of which C1 is sent before C2. Then the bits that move up, by 8, 4, 2 and 1, to
 // make room for those before.
-#[derive(Drop)]
+#[derive(Clone, Copy)]
 struct Group {
     octets: usize,
     filled: usize,

@@ -7,13 +7,13 @@ pub use piecewise::{close, held_rows, octet_rows, portion, start};
 use refusals::Verdict;
 
 // The check octets of one word, as they stand on the line.
-#[derive(Drop)]
+#[derive(Clone, Copy)]
 pub struct Row {
     pub octets: [u8; 32],
 }
 
 // How far a frame that is given in portions has come: the octets taken, whether it is closed, and a row for each of eight words.
-#[derive(Drop)]
+#[derive(Clone, Copy)]
 pub struct Progress {
     pub place: u32,
     pub closed: bool,
@@ -21,7 +21,7 @@ pub struct Progress {
 }
 
 // The answer of a portion or a close, with the state that it leaves.
-#[derive(Drop)]
+#[derive(Clone, Copy)]
 pub struct Portioned {
     pub verdict: Verdict,
     pub state: Progress,

@@ -13,21 +13,21 @@ pub use searching::search;
 pub use testing::test;
 
 // The marker's form: as it is, or with all bits inverted.
-#[derive(Drop)]
+#[derive(Clone, Copy)]
 pub enum Form {
     True,
     Complement,
 }
 
 // The marker test's answer; accepted, with the form and its wrong bits.
-#[derive(Drop)]
+#[derive(Clone, Copy)]
 pub enum Tested {
     Accepted(Form, u32),
     Refused(MarkerRefusal),
 }
 
 // The search's answer. Places are bit positions; `looked` is how many of them were looked at.
-#[derive(Drop)]
+#[derive(Clone, Copy)]
 pub enum Searched {
     Found {
         place: u64,

@@ -23,7 +23,7 @@ pub(crate) fn is_near(window: u32, tolerance: u32) -> bool
 }
 
 // A form, with its wrong bits.
-#[derive(Drop)]
+#[derive(Clone, Copy)]
 pub(crate) struct Near {
     pub form: Form,
     pub wrong: u32,

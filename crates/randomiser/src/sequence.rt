@@ -4,7 +4,7 @@ ghost use Rattle.randomiser.specs.Sequence.{eight_on};
 ghost use Rattle.randomiser.specs.Outcome.{NextOutcome};
 
 // The next eight bits of the sequence, first in the top bit.
-#[derive(Drop)]
+#[derive(Clone, Copy)]
 pub struct Register {
     pub bits: u8,
 }

@@ -12,7 +12,7 @@ use crate::{Decoded, Decoding};
 use octets::copy_front;
 use refusals::{Verdict, WordRefusal};
 
-#[derive(Drop)]
+#[derive(Clone, Copy)]
 struct WordRepair {
     found: bool,
     count: u32,
@@ -50,7 +50,7 @@ fn repair_word(
 }
 
 // How many words from the first on are good, and their counts.
-#[derive(Drop)]
+#[derive(Clone, Copy)]
 struct Repair {
     words: usize,
     total: u32,

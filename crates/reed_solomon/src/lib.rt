@@ -13,14 +13,14 @@ use refusals::{Verdict, WordRefusal};
 pub use salvager::salvage;
 
 // Decode's answer.
-#[derive(Drop)]
+#[derive(Clone, Copy)]
 pub enum Decoded {
     Delivered,
     Refused(WordRefusal),
 }
 
 // The answer, with the number of differing symbols in each of eight words and in all, zero on a refusal.
-#[derive(Drop)]
+#[derive(Clone, Copy)]
 pub struct Decoding {
     pub answer: Decoded,
     pub total: u32,
@@ -29,7 +29,7 @@ pub struct Decoding {
 
 // Salvage's answer: accepted or refused; which of eight words are repaired (1) or not (0); the number of differing symbols in each; and how many
 // entries the list has. All zero on a refusal.
-#[derive(Drop)]
+#[derive(Clone, Copy)]
 pub struct SalvageReport {
     pub answer: Verdict,
     pub marks: [u8; 8],

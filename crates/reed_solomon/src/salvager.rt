@@ -13,7 +13,7 @@ use crate::symbols::put_repaired;
 use octets::copy_front;
 use refusals::{Parameter, Verdict};
 
-#[derive(Drop)]
+#[derive(Clone, Copy)]
 struct WordSalvage {
     mark: u8,
     count: u8,
@@ -48,7 +48,7 @@ fn salvage_word(
 }
 
 // Which words are repaired, and their counts.
-#[derive(Drop)]
+#[derive(Clone, Copy)]
 struct WordsSalvage {
     marks: [u8; 8],
     counts: [u8; 8],

@@ -19,7 +19,7 @@ pub use portions::{close_parameters, portion_parameters};
 pub use salvage::salvage_parameters;
 
 // A parameter or a length that is not legal, or a frame in portions that a call would pass, finds unfinished, or finds closed.
-#[derive(Drop)]
+#[derive(Clone, Copy)]
 pub enum Parameter {
     Strength,
     Depth,
@@ -34,21 +34,21 @@ pub enum Parameter {
 }
 
 // The answer of a call that is refused for a parameter or a length only.
-#[derive(Drop)]
+#[derive(Clone, Copy)]
 pub enum Verdict {
     Accepted,
     Refused(Parameter),
 }
 
 // What the marker test refuses by.
-#[derive(Drop)]
+#[derive(Clone, Copy)]
 pub enum MarkerRefusal {
     Parameters(Parameter),
     WrongBits(u32),
 }
 
 // What decode refuses by.
-#[derive(Drop)]
+#[derive(Clone, Copy)]
 pub enum WordRefusal {
     Parameters(Parameter),
     NoCodeword(u32),

@@ -6,7 +6,7 @@ mod texts;
 
 pub use spelling::{closing, line};
 
-#[derive(Drop)]
+#[derive(Clone, Copy)]
 pub enum ReportLine {
     Corrected { block: u64, total: u64 },
     Inverted { block: u64, total: u64 },
@@ -17,7 +17,7 @@ pub enum ReportLine {
 }
 
 // The first `len` octets are the text.
-#[derive(Drop)]
+#[derive(Clone, Copy)]
 pub struct Text {
     pub octets: [u8; 96],
     pub len: usize,

@@ -14,7 +14,7 @@ use refusals::{Parameter, Verdict};
 use turning::turned;
 use walk::walk;
 
-#[derive(Drop)]
+#[derive(Clone, Copy)]
 pub enum Sought {
     // The number of differing places, and the register reached.
     Found { places: u32, register: u32 },
@@ -22,14 +22,14 @@ pub enum Sought {
 }
 
 // The costs to go of the 64 registers above a base, and the ways that have them, as far as they are gathered.
-#[derive(Drop)]
+#[derive(Clone, Copy)]
 struct Column {
     costs: [u8; 64],
     ways: [u8; 64],
 }
 
 // The costs to go at the start, and the base above which they stand.
-#[derive(Drop)]
+#[derive(Clone, Copy)]
 struct Start {
     costs: [u8; 64],
     base: u32,

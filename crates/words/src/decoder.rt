@@ -9,7 +9,7 @@ use crate::roots::find_roots;
 use crate::syndromes::all_zero;
 
 // Whether a codeword is good; what to add to the symbols to have it; how many unmarked symbols differ.
-#[derive(Drop)]
+#[derive(Clone, Copy)]
 pub(crate) struct Decision {
     pub(crate) found: bool,
     pub(crate) errors: [u8; 255],

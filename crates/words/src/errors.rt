@@ -37,7 +37,7 @@ fn term(s: &[u8], j: usize) -> u8
 
 // For each locator z: the quotient of lambda by x + z, paired with the syndromes s, and its value at z, both so far as the coefficients from
 // the top were taken; and the quotient's next coefficient.
-#[derive(Drop)]
+#[derive(Clone, Copy)]
 struct Division {
     above: [u8; 16],
     below: [u8; 16],

@@ -24,7 +24,7 @@ use line::on_line;
 use syndromes::syndromes_of;
 
 // Whether a good codeword was found, how many symbols differ from it, and what to add to each symbol sent to have it.
-#[derive(Drop)]
+#[derive(Clone, Copy)]
 pub struct WordAnswer {
     pub found: bool,
     pub count: u32,

@@ -41,7 +41,7 @@ fn changed(s: &[u8], gamma: &[u8]) -> [u8; 32]
 }
 
 // The length and the polynomial of a register.
-#[derive(Drop)]
+#[derive(Clone, Copy)]
 pub(crate) struct Locator {
     pub(crate) len: usize,
     pub(crate) sigma: [u8; 33],

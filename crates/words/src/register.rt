@@ -4,7 +4,7 @@ ghost use Rattle.std.specs.Prelude.{◌≡◌, ◌+◌, ◌≤◌, ◌<◌, leng
 ghost use Rattle.words.specs.Working.{Filled, terms, behind_zeros, PutBehind, blended_from, HoldsRegister, HoldsPolynomial};
 
 // Its length and polynomial.
-#[derive(Drop)]
+#[derive(Clone, Copy)]
 pub(crate) struct Register {
     pub(crate) len: usize,
     pub(crate) taps: [u8; 32],

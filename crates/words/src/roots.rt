@@ -11,7 +11,7 @@ use crate::rows::{row_from, with_symbol};
 // The 85th power of beta: its cube is one.
 const THIRD_OF_ONE: u8 = 0xAB;
 
-#[derive(Drop)]
+#[derive(Clone, Copy)]
 struct Thirds {
     first: [u8; 16],
     second: [u8; 16],
@@ -121,7 +121,7 @@ fn values_everywhere(lambda: &[u8], parts: usize) -> [u8; 288]
 }
 
 // How many roots were found, and which powers of beta the first 32 of them are.
-#[derive(Drop)]
+#[derive(Clone, Copy)]
 pub(crate) struct Roots {
     pub(crate) count: usize,
     pub(crate) powers: [u8; 32],

@@ -1,0 +1,40 @@
+-- `pairs_in` meets its contract. The loop's invariant: if the first octet is paired, from whatever register, so are all octets so far.
+use mathlib.Core.Path.{◌≡◌, refl, ◌∙◌, subst}
+use Prim.Native.Nat.{ℕ, ◌-◌, ◌<◌}
+use native.Mathlib.Omega.{arith}
+use lib.ListN.{length}
+use Rattle.convolution.proofs.Pairing.{Paired, paired_first, paired_on, nothing_in, all_paired}
+use Rattle.convolution.proofs.pairs.pairs_in.Goals as goal
+use Rattle.convolution.proofs.pairs.pairs_in.Goals.{Start}
+
+pub returns-then-n-eq0 : goal.returns-then-n-eq0
+returns-then-n-eq0 c =
+    let start = (goal.at.returns-then-n-eq0 c).Start in
+    nothing_in start.args.start start.args.octets.now start.args.symbols.now start.requires.1 start.requires.2 c.if-n-eq0.true
+
+pub loop-i-init : goal.loop-i-init
+loop-i-init c = (omega arith, omega (arith, c.if-n-eq0.false), refl, λ r h p. p)
+
+pub loop-i-preserved : goal.loop-i-preserved
+loop-i-preserved c =
+    let start = (goal.at.loop-i-preserved c).Start in
+    let at = c.loop-i in
+    let octets = start.args.octets.now in
+    let inside : at.i < length octets = omega arith in (
+      omega arith,
+      omega arith,
+      c.put_pair-in-loop-i.ensures.long ∙ at.invariant.2,
+      λ r six first. paired_on r octets six at.i at.symbols _ at.invariant.0 inside (omega (arith, c.shared_slice_known-1.given (at.i - 1))) c.put_pair-in-loop-i.ensures (at.invariant.3 r six first),
+    )
+
+pub returns : goal.returns
+returns c =
+    let start = (goal.at.returns c).Start in
+    let at = c.loop-i in
+    let octets = start.args.octets.now in
+    let flow = start.args.start in
+    let some : 0 < length octets = omega (arith, at.invariant.0, at.invariant.1) in
+    let all : at.i ≡ length octets = omega (arith, at.invariant.1) in
+    let first = paired_first flow.register octets start.requires.1.register start.args.symbols.now _ some c.put_pair.ensures in
+    all_paired flow octets start.requires.1 start.requires.2 at.symbols some (omega (arith, c.shared_slice_known-1.given (length octets - 1)))
+    (subst (λ (m : ℕ). Paired flow.register octets m at.symbols) all (at.invariant.3 flow.register start.requires.1.register first))

@@ -1,0 +1,34 @@
+-- `pairs` meets its contract: sixteen symbols join the held ones, and the place is 0 still.
+use mathlib.Core.Path.{◌≡◌, ap, ap₂, sym, ◌∙◌}
+use mathlib.Core.List.{◌++◌}
+use Prim.Native.Nat.{ℕ, ◌+◌, ◌*◌}
+use native.Mathlib.Omega.{arith}
+use Rattle.convolution.specs.Coder.{low_bits}
+use Rattle.convolution.specs.Working.{picked_from}
+use Rattle.convolution.proofs.Spreading.{pairs_joined, spread_small}
+use Rattle.convolution.proofs.picks.pairs.Goals as goal
+use Rattle.convolution.proofs.picks.pairs.Goals.{Start}
+
+pub overflow_mul-result-2 : goal.overflow_mul-result-2
+overflow_mul-result-2 c = omega (arith, c.spread.ensures, spread_small 8 c.args.first)
+
+pub overflow_add-result : goal.overflow_add-result
+overflow_add-result c = omega (arith, c.spread.ensures, spread_small 8 c.args.first, c.spread-2.ensures, spread_small 8 c.args.second)
+
+pub overflow_add-result-2 : goal.overflow_add-result-2
+overflow_add-result-2 c = omega (arith, c.spread.ensures, spread_small 8 c.args.first, c.spread-2.ensures, spread_small 8 c.args.second)
+
+pub returns : goal.returns
+returns c =
+    let start = (goal.at.returns c).Start in
+    let s = start.args.state in
+    let zero-place : s.place ≡ 0 = omega arith in
+    record {
+      symbols =
+          ap₂ (λ (x y : ℕ). low_bits (s.holds + 16) (s.held * 65536 + (x * 2 + y))) c.spread.ensures c.spread-2.ensures
+          ∙ pairs_joined s.holds s.held start.args.first start.args.second
+          ∙ ap (λ (q : ℕ). low_bits s.holds s.held ++ picked_from 1 q (low_bits 8 start.args.first) (low_bits 8 start.args.second)) (sym zero-place);
+      place = omega arith;
+      small = start.requires.2;
+      holds = omega arith;
+    }

@@ -1,0 +1,75 @@
+-- `punctured` meets its contract. The loop's invariant: the held symbols, with what is sent of the bits not yet in, are the same as at the start, and so is the place at the end.
+use mathlib.Core.List.{List, ◌++◌}
+use mathlib.Core.Path.{sym, ap, ◌∙◌, subst}
+use Prim.Native.Nat.{ℕ, ◌≤◌, ◌<◌, ◌+◌}
+use native.Mathlib.Omega.{arith}
+use Rattle.convolution.specs.Coder.{low_bits}
+use Rattle.refusals.specs.Sizes.{period}
+use Rattle.convolution.specs.Working.{ahead}
+use Rattle.convolution.proofs.Puncturing.{begun_turn, begun_ahead, some_period, starts, starts_ahead, ends_place, ends_small, second_none, ahead_small}
+use Rattle.convolution.proofs.picks.punctured.Goals as goal
+use Rattle.convolution.proofs.picks.punctured.Goals.{After-way_told-1}
+
+pub loop-s-init : goal.loop-s-init
+loop-s-init c =
+    let start = (goal.at.loop-s-init c).After-way_told-1 in
+    let s = start.args.state in
+    let a = c.ahead_of_lem.result in (
+      omega arith,
+      subst (λ (n : ℕ). n < start.args.period) (sym c.ahead_of_lem.ensures) (ahead_small start.args.period s.place start.requires.1),
+      omega (arith, start.requires.2),
+      ap (λ (l : List ℕ). low_bits s.holds s.held ++ l) (starts start.args.rate start.args.period start.args.c1.now start.requires.0 s.place start.args.first start.requires.1 start.args.second c.merged-both.result a c.merged-both.ensures c.ahead_of_lem.ensures),
+      starts_ahead start.args.rate start.args.period start.args.c1.now start.requires.0 s.place start.args.first start.requires.1 a c.ahead_of_lem.ensures,
+    )
+
+pub period_begun-s-requires : goal.period_begun-s-requires
+period_begun-s-requires c =
+    let start = (goal.at.period_begun-s-requires c).After-way_told-1 in
+    let i = c.loop-s.invariant in
+    (some_period start.args.rate start.args.period start.args.c1.now start.requires.0, c.loop-s-test.true, i.0, omega (arith, i.2))
+
+pub loop-s-smaller : goal.loop-s-smaller
+loop-s-smaller c = omega (arith, c.period_begun-s.ensures.left)
+
+pub loop-s-preserved : goal.loop-s-preserved
+loop-s-preserved c =
+    let start = (goal.at.loop-s-preserved c).After-way_told-1 in
+    let i = c.loop-s.invariant in
+    let s = c.loop-s.s in
+    let begun = c.period_begun-s.ensures in
+    let period = start.args.period in
+    let both = c.merged-both.result in (
+      omega (arith, begun.left, i.0),
+      omega (arith, begun.ahead, some_period start.args.rate start.args.period start.args.c1.now start.requires.0),
+      omega (arith, begun.left, begun.holds, i.2),
+      begun_turn period s c.period_begun-s.result both start.args.second begun ∙ i.3,
+      begun_ahead period s c.period_begun-s.result both start.args.second begun ∙ i.4,
+    )
+
+pub place_of-requires : goal.place_of-requires
+place_of-requires c = omega (arith, c.loop-s.invariant.1)
+
+pub joined-requires : goal.joined-requires
+joined-requires c = c.loop-s.invariant.0
+
+pub overflow_add-result : goal.overflow_add-result
+overflow_add-result c = omega (arith, c.loop-s.invariant.2)
+
+pub returns : goal.returns
+returns c =
+    let start = (goal.at.returns c).After-way_told-1 in
+    let at = c.loop-s in
+    let s = at.s in
+    let st = start.args.state in
+    let both = c.merged-both.result in
+    let few : s.left ≤ s.ahead = omega (arith, c.loop-s-test.false) in
+    let place = c.place_of.ensures ∙ ends_place start.args.rate start.args.period start.args.c1.now start.requires.0 st.place start.args.first start.requires.1 s.ahead s.left few at.invariant.4 in
+    record {
+      symbols =
+          c.joined.ensures s.holds (omega (arith, at.invariant.2))
+          ∙ ap (λ (l : List ℕ). low_bits s.holds s.held ++ l) (sym (second_none start.args.period s.ahead s.left both start.args.second few))
+          ∙ at.invariant.3;
+      place = place;
+      small = subst (λ (n : ℕ). n < period start.args.rate) (sym place) (ends_small start.args.rate start.args.period start.args.c1.now start.requires.0 st.place start.args.first start.requires.1);
+      holds = omega (arith, at.invariant.2);
+    }

@@ -1,0 +1,63 @@
+-- `all_in` meets its contract: at rate 1/2 by a loop, whose invariant is that the call has gone so far, by turns of an octet.
+use mathlib.Core.Path.{◌≡◌, sym, subst}
+use Prim.Native.Nat.{ℕ, ◌-◌, ◌/◌, ◌≤◌}
+use native.Mathlib.Omega.{arith}
+use lib.ListN.{length}
+use Rattle.convolution.specs.Coder.{bits_of}
+use Rattle.convolution.specs.Working.{stream, Rows, Sound, Run}
+use Rattle.convolution.proofs.Pairing.{pairs_room}
+use Rattle.convolution.proofs.Turning.{going_first, going_underway, going_on, going_over}
+use Rattle.convolution.proofs.running.all_in.Goals as goal
+use Rattle.convolution.proofs.running.all_in.Goals.{Start}
+
+pub groups_in-requires : goal.groups_in-requires
+groups_in-requires c =
+    let start = (goal.at.groups_in-requires c).Start in
+    (start.requires.0, start.requires.1, start.requires.2, c.if-rate-ne1.true)
+
+pub returns-then-rate-ne1 : goal.returns-then-rate-ne1
+returns-then-rate-ne1 c = c.groups_in.ensures
+
+pub pairs_in-requires : goal.pairs_in-requires
+pairs_in-requires c =
+    let start = (goal.at.pairs_in-requires c).Start in
+    let half : start.args.rate ≡ 1 = c.if-rate-ne1.false in
+    let none = c.if-start-eq0.true in
+    let sound = subst (λ (r : ℕ). Sound r start.args.start) half start.requires.1 in
+    let enough = subst (λ (r : ℕ). length (stream r start.args.start (bits_of start.args.octets.now)) / 8 ≤ length start.args.symbols.now) half start.requires.2 in
+    (subst (λ (r : ℕ). Rows r start.args.period start.args.c1.now) half start.requires.0, sound, none, pairs_room start.args.start start.args.octets.now sound none _ enough)
+
+pub returns-then-start-eq0 : goal.returns-then-start-eq0
+returns-then-start-eq0 c =
+    let start = (goal.at.returns-then-start-eq0 c).Start in
+    let half : start.args.rate ≡ 1 = c.if-rate-ne1.false in
+    subst (λ (r : ℕ). Run r start.args.start (bits_of start.args.octets.now) c.pairs_in.result c.pairs_in.new.1.1.1.0) (sym half) c.pairs_in.ensures
+
+pub loop-at-init : goal.loop-at-init
+loop-at-init c =
+    let start = (goal.at.loop-at-init c).Start in
+    going_first start.args.rate start.args.octets.now start.args.symbols.now start.args.start start.requires.1
+
+pub one_in-at-requires : goal.one_in-at-requires
+one_in-at-requires c =
+    let start = (goal.at.one_in-at-requires c).Start in
+    let at = c.loop-at in
+    (start.requires.0, going_underway start.args.rate start.args.octets.now start.args.symbols.now start.args.start at.symbols at.at at.invariant start.requires.2, c.loop-at-test.true)
+
+pub loop-at-smaller : goal.loop-at-smaller
+loop-at-smaller c = omega (arith, c.one_in-at.ensures.further, c.loop-at-test.true)
+
+pub loop-at-preserved : goal.loop-at-preserved
+loop-at-preserved c =
+    let start = (goal.at.loop-at-preserved c).Start in
+    let at = c.loop-at in
+    going_on start.args.rate start.args.octets.now start.args.symbols.now start.args.start at.symbols at.at at.invariant _ c.one_in-at.result c.one_in-at.ensures
+
+pub shape_of-symbols : goal.shape_of-symbols
+shape_of-symbols c = c.loop-at.invariant.long
+
+pub returns : goal.returns
+returns c =
+    let start = (goal.at.returns c).Start in
+    let at = c.loop-at in
+    going_over start.args.rate start.args.octets.now start.args.symbols.now start.args.start at.symbols at.at at.invariant (omega (arith, c.loop-at-test.false))

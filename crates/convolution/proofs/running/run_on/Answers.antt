@@ -1,0 +1,52 @@
+-- `run_on` meets its contract: the rows are those of the rate, the octets go in from the state that came, and the state is handed back.
+use mathlib.Core.Path.{◌≡◌}
+use native.Mathlib.Omega.{arith}
+use lib.ListN.{length}
+use Rattle.convolution.proofs.Accepting.{known, not_long, start_sound, room_for_stream, enough, accepted}
+use Rattle.convolution.proofs.Packing.{octets_known}
+use Rattle.convolution.proofs.Tables.{listed, period_most}
+use Rattle.convolution.proofs.running.run_on.Goals as goal
+use Rattle.convolution.proofs.running.run_on.Goals.{Start}
+
+pub row_of-row-requires : goal.row_of-row-requires
+row_of-row-requires c =
+    let start = (goal.at.row_of-row-requires c).Start in
+    (known start.args.rate start.args.state start.args.octets.now start.args.symbols.now start.requires).coder.rate
+
+pub opened-start-requires : goal.opened-start-requires
+opened-start-requires c =
+    let start = (goal.at.opened-start-requires c).Start in
+    (known start.args.rate start.args.state start.args.octets.now start.args.symbols.now start.requires).coder.holds
+
+pub all_in-end-requires : goal.all_in-end-requires
+all_in-end-requires c =
+    let start = (goal.at.all_in-end-requires c).Start in
+    let first = c.opened-start in (
+      listed start.args.rate c.row_of-row.result (known start.args.rate start.args.state start.args.octets.now start.args.symbols.now start.requires).coder.rate c.row_of-row.ensures.0,
+      start_sound start.args.rate start.args.state start.args.octets.now start.args.symbols.now start.requires first.result first.ensures,
+      room_for_stream start.args.rate start.args.state start.args.octets.now start.args.symbols.now start.requires first.result first.ensures,
+    )
+
+pub own_symbols-count-requires : goal.own_symbols-count-requires
+own_symbols-count-requires c =
+    let start = (goal.at.own_symbols-count-requires c).Start in
+    let first = c.opened-start in
+    let run = c.all_in-end in
+    let long : length run.new.1.1.1.1.0 ≡ length start.args.symbols.now = run.auto.1.1.1.1.0 in
+    let few = not_long start.args.rate start.args.state start.args.octets.now start.args.symbols.now start.requires in
+    let most = enough start.args.rate start.args.state start.args.octets.now start.args.symbols.now start.requires first.result first.ensures run.result run.new.1.1.1.1.0 run.ensures long (octets_known run.new.1.1.1.1.0 (λ k h. omega (arith, c.slice_known-2-1.given k))) in
+    (omega arith, run.ensures.sound.holds, omega arith)
+
+pub handed-next-requires : goal.handed-next-requires
+handed-next-requires c =
+    let start = (goal.at.handed-next-requires c).Start in
+    let sound = c.all_in-end.ensures.sound in
+    (sound.register, omega (arith, sound.place, period_most start.args.rate (known start.args.rate start.args.state start.args.octets.now start.args.symbols.now start.requires).coder.rate), sound.held, sound.holds)
+
+pub returns : goal.returns
+returns c =
+    let start = (goal.at.returns c).Start in
+    let first = c.opened-start in
+    let run = c.all_in-end in
+    let long : length run.new.1.1.1.1.0 ≡ length start.args.symbols.now = run.auto.1.1.1.1.0 in
+    accepted start.args.rate start.args.state start.args.octets.now start.args.symbols.now start.requires first.result first.ensures run.result run.new.1.1.1.1.0 run.ensures long (octets_known run.new.1.1.1.1.0 (λ k h. omega (arith, c.slice_known-2-1.given k))) c.handed-next.result c.own_symbols-count.result c.handed-next.ensures (omega (arith, c.own_symbols-count.ensures, long))

@@ -1,0 +1,33 @@
+-- `look` answers what the walk over the first places answers, unless that spends its budget; then none of them fits, nor any place of the octets passed over.
+use Rattle.std.proofs.Common.{◌≡◌, ℕ, [], ◌∷◌, subst, arith}
+use denote.Enum.Declared.{tag_of}
+use types.Run.{OneOf, miss}
+use Rattle.marker.specs.declared.Searched.{Searched}
+use Rattle.marker.specs.declared.Searched.TheVariants.{Spent}
+use Rattle.marker.specs.contracts.Searched.{the_type}
+use Rattle.marker.proofs.Passing.{none_joined, none_spent, more_budget}
+use Rattle.marker.proofs.searching.look.Goals as goal
+
+-- What is not matched as spent is not that.
+unspent : (answer : Searched) → OneOf (0 ∷ 1 ∷ 3 ∷ []) (tag_of the_type answer) → (next looked : ℕ) → answer ≡ Spent next looked → ⊥
+unspent answer other next looked e = miss (0 ∷ 1 ∷ 3 ∷ []) 2 tt (subst (λ (a : Searched). OneOf (0 ∷ 1 ∷ 3 ∷ []) (tag_of the_type a)) e other)
+
+pub walk_on-requires : goal.walk_on-requires
+walk_on-requires c =
+    let a = c.args in
+    let front = none_spent a.tolerance a.stream.now a.start _ _ c.in-Spent.is c.walk-near.ensures in
+    let whole = c.whole_octets-end.ensures in (
+      omega arith,
+      omega arith,
+      omega arith,
+      omega (arith, whole.0, c.skipped-octet.ensures.1),
+      omega (arith, whole.1, c.skipped-octet.ensures.1),
+      λ p from before. none_joined a.tolerance a.stream.now a.start _ _ (λ m l h. front m l (omega arith)) c.skipped-octet.ensures.2 p from (omega arith),
+    )
+
+pub returns : goal.returns
+returns c =
+    let a = c.args in
+    let near = c.walk-near in
+    more_budget a.tolerance a.stream.now a.start _ a.budget near.result near.ensures (unspent near.result c.in_default.in_default-own.keys2)
+    (omega (arith, c.whole_octets-end.ensures.0))

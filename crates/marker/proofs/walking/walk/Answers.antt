@@ -1,0 +1,65 @@
+-- `walk` answers what it saw. Both loops keep `Sofar` before the next bit, i * 8 + b; the measures are the bits and the octets left.
+-- Where the loops are left and nothing was found, by the budget or at the end, `Stopped` holds, from which either answer follows.
+use Rattle.std.proofs.Common.{◌-◌, sym, refl, ◌∙◌, ⊎_elim, arith, rules, leb-false, leb-true}
+use Rattle.marker.proofs.Sofar.{Stopped, begins, moved, onward, found, out_of_budget, none_there, ended, spent, absent}
+use Rattle.marker.proofs.walking.walk.Goals as goal
+use Rattle.marker.proofs.walking.walk.Goals.{After-bit_entered-window, Left-octets}
+
+shared-slice-read-bit-entered :
+    tie.Need-shared-slice-read-bit-entered invariant-loop decreases-loop invariant-octets decreases-octets
+shared-slice-read-bit-entered c = search rules
+
+-- Both ways out at which nothing was found.
+abbrev StoppedAt : (c : Left-octets) → Type 0
+StoppedAt c =
+    let given = c.args in
+    Stopped given.tolerance given.stream.now given.start given.budget c.octets-test.looked
+
+stopped : (c : Left-octets) → StoppedAt c
+stopped c =
+    ⊎_elim (λ w. rw w.2 (ended (moved (omega arith) c.octets.invariant.4)))
+    (λ w. rw w.7 (out_of_budget _ _ w.2.taken w.1.inv.3 (omega arith) w.5.taken))
+    c.octets-test.branch
+
+pub returns-then-first-octets : goal.returns-then-first-octets
+returns-then-first-octets c = none_there (omega arith)
+
+pub octets-init : goal.octets-init
+octets-init c = (omega arith, refl, omega arith, omega arith, moved (omega arith) (begins c.window_before-window.ensures))
+
+pub loop-b-init : goal.loop-b-init
+loop-b-init c = (omega arith, omega arith, refl, c.octets.invariant.4)
+
+pub returns-then-is_near : goal.returns-then-is_near
+returns-then-is_near c =
+    let entered = (goal.at.returns-then-is_near c).After-bit_entered-window in
+    let turn = entered.before.before in
+    rw c.found.ensures
+    (found _ _ turn.loop-test.true turn.before.loop.invariant.3 entered.bit-entered.ensures c.if-looked-budget.false (refl, refl)
+    (leb-true _ _ (sym c.is_near.ensures ∙ c.if-is_near.true)) (omega arith))
+
+pub loop-b-preserved : goal.loop-b-preserved
+loop-b-preserved c = (
+  omega arith,
+  omega arith,
+  refl,
+  let entered = (goal.at.loop-b-preserved c).After-bit_entered-window in
+      let turn = entered.before.before in
+      onward _ _ turn.loop-test.true turn.before.loop.invariant.3 entered.bit-entered.ensures c.if-looked-budget.false (refl, refl)
+      (leb-false _ _ (sym c.is_near.ensures ∙ c.if-is_near.false)),
+)
+
+pub octets-preserved : goal.octets-preserved
+octets-preserved c = (omega arith, refl, omega arith, omega arith, moved (omega arith) c.loop-b.invariant.3)
+
+pub overflow_add-next : goal.overflow_add-next
+overflow_add-next c = omega (arith, (stopped c).bounded)
+
+pub overflow_add-next-2 : goal.overflow_add-next-2
+overflow_add-next-2 c = omega (arith, (stopped c).bounded)
+
+pub returns-then-next-octets : goal.returns-then-next-octets
+returns-then-next-octets c = spent (stopped (goal.at.returns-then-next-octets c).Left-octets) c.if-next-octets.true
+
+pub returns : goal.returns
+returns c = absent (stopped (goal.at.returns c).Left-octets) c.if-next-octets.false

@@ -1,0 +1,34 @@
+-- `unmarked_locator` runs the register over the syndromes as they are, or, with marks, as the marked places changed them.
+use mathlib.Core.Path.{sym}
+use native.Mathlib.Omega.{arith}
+use lib.ListN.{length-take}
+use lib.Seq.{length-take-le}
+use Rattle.words.proofs.Arrays.{one_first}
+use Rattle.words.proofs.MarkedProducts.{holds_unmarked, holds_changed}
+use Rattle.words.proofs.marks.unmarked_locator.Goals as goal
+use Rattle.words.proofs.marks.unmarked_locator.Goals.{After-changed-t, After-shared_slice_known-1}
+
+pub returns-then-f-eq0 : goal.returns-then-f-eq0
+returns-then-f-eq0 c =
+    let known = (goal.at.returns-then-f-eq0 c).After-shared_slice_known-1 in
+    holds_unmarked known.before.args.s.now known.before.args.marks.now (omega arith) (λ i. omega (arith, known.shared-slice-known.given i)) _ _ _
+    c.shortest_register-g.ensures c.polynomial-sigma.ensures
+
+pub slice_bounds-changed-end : goal.slice_bounds-changed-end
+slice_bounds-changed-end c = sym (length-take-le _ _ (omega (arith, c.times_marks-gamma.ensures.size)))
+
+pub changed-t-requires : goal.changed-t-requires
+changed-t-requires c = (omega arith, simp length-take (omega (arith, c.times_marks-gamma.ensures.size)), simp length-take (omega arith))
+
+pub slice_bounds-shortest_register-end : goal.slice_bounds-shortest_register-end
+slice_bounds-shortest_register-end c = sym (length-take-le _ _ (omega (arith, c.changed-t.ensures.size)))
+
+pub shortest_register-g-requires-2 : goal.shortest_register-g-requires-2
+shortest_register-g-requires-2 c = simp length-take (omega arith)
+
+pub returns : goal.returns
+returns c =
+    let changed = (goal.at.returns c).After-changed-t in
+    let start = changed.before.before.before.before.before.before in
+    holds_changed start.args.s.now start.args.marks.now _ start.requires.2 (omega arith) (omega arith) _ _ (one_first 32)
+    changed.before.before.times-marks.ensures _ changed.changed.ensures _ _ _ c.shortest_register-g-2.ensures c.polynomial-sigma-2.ensures

@@ -1,0 +1,29 @@
+-- `find_roots` passes one place after another; a root is added to those found.
+use mathlib.Core.Path.{◌≡◌, sym, ◌∙◌}
+use mathlib.Core.Logic.{⊎_elim}
+use Prim.Native.Nat.{◌-◌}
+use native.Mathlib.Omega.{arith}
+use Rattle.words.proofs.RootsFound.{value_is, roots_start, roots_none, roots_more}
+use Rattle.words.proofs.roots.find_roots.Goals as goal
+
+pub loop-power-init : goal.loop-power-init
+loop-power-init c = (omega arith, roots_start _ _ _ c.no_roots-found.ensures.0 c.no_roots-found.ensures.1)
+
+pub with_root-more-requires : goal.with_root-more-requires
+with_root-more-requires c = (omega (arith, c.loop-power.invariant.1.few), omega arith, c.loop-power.invariant.1.powers-size)
+
+pub loop-power-preserved : goal.loop-power-preserved
+loop-power-preserved c =
+    let now = c.loop-power in
+    let value = value_is _ _ now.power c.values_everywhere-values.ensures (omega arith) in (
+      omega arith,
+      ⊎_elim
+          (λ w. rw w.2 (rw (w.1.ensures.count-is, w.1.ensures.powers-are) (roots_more _ _ _ _ now.invariant.1 (sym value ∙ w.0.taken))))
+          (λ w. rw w.1 (roots_none _ _ _ _ now.invariant.1 (λ e. w.0.left (value ∙ e))))
+          c.if-values-power-eq0.branch,
+    )
+
+pub returns : goal.returns
+returns c =
+    let whole : c.loop-power.power ≡ c.args.len = omega arith in
+    rw whole at c.loop-power.invariant.1

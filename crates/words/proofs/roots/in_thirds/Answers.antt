@@ -1,0 +1,20 @@
+-- `in_thirds` goes by Horner's rule from the top, at all points and in each part: the parts are those of the coefficients passed.
+use mathlib.Core.Path.{◌≡◌, refl}
+use native.Mathlib.Omega.{arith}
+use Rattle.words.proofs.Thirds.{thirds_start, thirds_turn}
+use Rattle.words.proofs.roots.in_thirds.Goals as goal
+
+pub loop-j-init : goal.loop-j-init
+loop-j-init c = (omega arith, thirds_start c.args.lambda.now _ _ c.requires.0)
+
+pub loop-j-preserved : goal.loop-j-preserved
+loop-j-preserved c =
+    let now = c.loop-j in (
+      omega arith,
+      thirds_turn _ _ _ _ _ _ _ _ now.j _ (omega arith) refl now.invariant.1 c.with_symbol-more_first.ensures c.with_symbol-more_second.ensures c.with_symbol-more_third.ensures,
+    )
+
+pub returns : goal.returns
+returns c =
+    let all : c.loop-j.j ≡ 0 = omega arith in
+    rw all at c.loop-j.invariant.1

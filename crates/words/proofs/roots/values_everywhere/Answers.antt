@@ -1,0 +1,32 @@
+-- `values_everywhere` puts three rows of values in place in each turn, behind those of the turns before.
+use mathlib.Core.Path.{◌≡◌, refl}
+use Prim.Native.Nat.{◌-◌, ◌*◌}
+use native.Mathlib.Omega.{arith}
+use Rattle.words.proofs.Thirds.{rows_start, rows_turn, rows_end}
+use Rattle.words.proofs.roots.values_everywhere.Goals as goal
+use Rattle.words.proofs.roots.values_everywhere.Goals.{After-values_at-found}
+
+pub loop-row-init : goal.loop-row-init
+loop-row-init c = (omega arith, rows_start _ _ refl)
+
+pub loop-row-preserved : goal.loop-row-preserved
+loop-row-preserved c =
+    let found = (goal.at.loop-row-preserved c).After-values_at-found in (
+      omega arith,
+      rows_turn
+          _
+          _
+          (omega arith)
+          found.before.before.before.before.before.loop.invariant.1
+          found.values-at.ensures.0
+          found.values-at.ensures.1
+          found.values-at.ensures.2
+          c.put_row.ensures
+          c.put_row-in-loop-row.ensures
+          c.put_row-in-loop-row-2.ensures,
+    )
+
+pub returns : goal.returns
+returns c =
+    let whole : 16 * c.loop-row.row ≡ 96 = omega arith in
+    rows_end _ _ (rw whole at c.loop-row.invariant.1)
