@@ -159,14 +159,6 @@ module _ (e s : ℕ) (sent : List ℕ) (L : LegalWord e s sent) (octets : Octets
 
 -- ---- what the code has: the syndromes, and an array of marks that are all clear
 
-was_true : (flag : Bool) → not flag ≡ false → flag ≡ true
-was_true true h = refl
-was_true false h = sym h
-
-was_false : (flag : Bool) → not flag ≡ true → flag ≡ false
-was_false false h = refl
-was_false true h = sym h
-
 module _ (e s : ℕ) (sent : List ℕ) (L : LegalWord e s sent) (octets : Octets sent) (sums : List ℕ) (Sy : Filled (syndromes (128 - e) (map to_conventional sent)) 32 sums 32)
     (marks : List ℕ) (M : length marks ≡ 255) (clear : weight marks ≡ 0) (found : Bool) (errors : List ℕ) (unmarked : ℕ)
     (D : DecidedBy (128 - e) e s (take (length sent) marks) (take (e + e) sums) found errors unmarked) where
@@ -182,10 +174,10 @@ module _ (e s : ℕ) (sent : List ℕ) (L : LegalWord e s sent) (octets : Octets
       (D (map to_conventional sent) (length-map sent to_conventional ∙ sym one_each) (conversion_octets sent)
       (filled-take (syndromes (128 - e) (map to_conventional sent)) 32 32 (e + e) sums Sy (omega (arith, strength)) (omega (arith, strength))))
 
-  pub none_good : not found ≡ true → (c : List ℕ) → Good e (fill_of sent) s (with_fill (fill_of sent) sent) c → ⊥
+  pub none_good : found ≡ false → (c : List ℕ) → Good e (fill_of sent) s (with_fill (fill_of sent) sent) c → ⊥
   none_good p =
-      without_marks_none e s sent L octets (take (length sent) marks) one_each (take_clear (length sent) marks clear) ((decision false (was_false found p)).none refl)
+      without_marks_none e s sent L octets (take (length sent) marks) one_each (take_clear (length sent) marks clear) ((decision false p).none refl)
 
-  pub found_good : not found ≡ false → (line : List ℕ) → line ≡ map to_line errors → WordOutcome e s sent true unmarked line
+  pub found_good : found ≡ true → (line : List ℕ) → line ≡ map to_line errors → WordOutcome e s sent true unmarked line
   found_good p =
-      without_marks_found e s sent L octets (take (length sent) marks) one_each (take_clear (length sent) marks clear) errors unmarked (decision true (was_true found p))
+      without_marks_found e s sent L octets (take (length sent) marks) one_each (take_clear (length sent) marks clear) errors unmarked (decision true p)

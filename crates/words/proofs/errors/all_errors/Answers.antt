@@ -4,21 +4,20 @@ use Prim.Native.Nat.{◌+◌}
 use native.Mathlib.Omega.{arith}
 use Rattle.words.proofs.ErrorsPlaced.{listed_are_roots, placed_starts, placed_ends}
 use Rattle.words.proofs.errors.all_errors.Goals as goal
-use Rattle.words.proofs.errors.all_errors.Goals.{Start}
 
 pub with_errors-out-requires : goal.with_errors-out-requires
 with_errors-out-requires c =
-    let start = (goal.at.with_errors-out-requires c).Start in
+    let start = c in
     (omega arith, omega arith, omega arith, omega arith, listed_are_roots _ _ _ _ start.requires.3 (omega arith) _ (omega arith), placed_starts _ _ _ _ _)
 
 pub returns-then-count-le16 : goal.returns-then-count-le16
 returns-then-count-le16 c =
-    let start = (goal.at.returns-then-count-le16 c).Start in
+    let start = c in
     placed_ends _ _ _ _ _ _ start.requires.3 (omega arith) _ _ c.with_errors-out.ensures (omega arith)
 
 pub with_errors-requires : goal.with_errors-requires
 with_errors-requires c =
-    let start = (goal.at.with_errors-requires c).Start in
+    let start = c in
     let row : 0 + c.at_most_a_row-some.result ≡ 16 = omega arith in (
       omega arith,
       omega arith,
@@ -30,5 +29,5 @@ with_errors-requires c =
 
 pub returns : goal.returns
 returns c =
-    let start = (goal.at.returns c).Start in
+    let start = c in
     placed_ends _ _ _ _ _ _ start.requires.3 (omega arith) _ _ c.with_errors.ensures (omega arith)

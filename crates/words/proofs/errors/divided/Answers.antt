@@ -12,13 +12,13 @@ loop-j-init c =
 pub with_coefficient-more-requires : goal.with_coefficient-more-requires
 with_coefficient-more-requires c =
     let now = c.loop-j in
-    (now.invariant.1.above-size, now.invariant.1.below-size, now.invariant.1.rest-size)
+    (now.invariant.1.above_size, now.invariant.1.below_size, now.invariant.1.rest_size)
 
 pub loop-j-preserved : goal.loop-j-preserved
 loop-j-preserved c =
     let taken = c.with_coefficient-more.ensures in
     let now = c.loop-j in
-    (omega arith, dividing_turn 16 _ _ _ _ _ _ now.j (omega arith) now.invariant.1 _ _ _ _ c.term-syndrome.ensures taken.above-is taken.below-is taken.rest-is)
+    (omega arith, dividing_turn 16 _ _ _ _ _ _ now.j (omega arith) now.invariant.1 _ _ _ _ c.term-syndrome.ensures taken.above_is taken.below_is taken.rest_is)
 
 pub returns : goal.returns
 returns c =

@@ -5,11 +5,10 @@ use native.Mathlib.Nat.{add-zero}
 use native.Mathlib.Omega.{arith}
 use Rattle.words.proofs.ErrorsPlaced.{power_below, placed_turn}
 use Rattle.words.proofs.errors.with_errors.Goals as goal
-use Rattle.words.proofs.errors.with_errors.Goals.{Start}
 
 pub loop-c-init : goal.loop-c-init
 loop-c-init c =
-    let start = (goal.at.loop-c-init c).Start in
+    let start = c in
     (omega arith, power_below _ _ _ _ _ start.requires.4 _ (omega arith) c.row_from-row.ensures, rw add-zero start.requires.5)
 
 pub overflow_sub-place : goal.overflow_sub-place
@@ -29,7 +28,7 @@ bounds-out-place c = omega (arith, c.loop-c.invariant.2.size, c.loop-c.invariant
 
 pub loop-c-preserved : goal.loop-c-preserved
 loop-c-preserved c =
-    let start = (goal.at.loop-c-preserved c).Start in (
+    let start = c in (
       omega arith,
       c.loop-c.invariant.1,
       placed_turn _ _ _ _ _ start.requires.4 _ (omega arith) c.row_from-row.ensures _ _ _ _ c.loop-c.c (omega arith) c.loop-c.invariant.2

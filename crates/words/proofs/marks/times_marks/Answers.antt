@@ -1,5 +1,4 @@
 -- `times_marks` has nothing to do with no mark; else it walks from the last place to the first, with a factor for each mark passed.
-use mathlib.Core.Logic.{⊎_elim}
 use mathlib.Core.Path.{◌≡◌, subst, sym}
 use Prim.Native.Nat.{◌-◌}
 use native.Mathlib.Omega.{arith}
@@ -7,7 +6,7 @@ use lib.ListN.{length}
 use Rattle.words.proofs.MarkedProducts.{product_starts, product_unmarked, product_marked, product_plain}
 use Rattle.words.specs.Working.{HoldsProduct}
 use Rattle.words.proofs.marks.times_marks.Goals as goal
-use Rattle.words.proofs.marks.times_marks.Goals.{At-loop-power}
+use Rattle.words.proofs.marks.times_marks.Goals.{then-marks-n-ne0, else-marks-n-ne0}
 
 pub returns-then-f-eq0 : goal.returns-then-f-eq0
 returns-then-f-eq0 c = product_unmarked _ _ (omega arith) (omega arith)
@@ -17,13 +16,14 @@ loop-power-init c = (omega arith, product_starts _ c.args.marks.now c.requires.0
 
 pub loop-power-preserved : goal.loop-power-preserved
 loop-power-preserved c =
-    let turn = (goal.at.loop-power-preserved c).At-loop-power in
-    let marks = turn.before.before.before.before.args.marks.now in (
+    let marks = c.args.marks.now in (
       omega arith,
-      ⊎_elim
-          (λ w. subst (HoldsProduct _ _) (sym w.3) (product_marked _ marks turn.loop.power _ (omega arith) turn.loop.invariant.1 _ _ w.0.taken (turn.before.locators.ensures.each _ (omega arith)) w.2.ensures))
-          (λ w. subst (HoldsProduct _ _) (sym w.1) (product_plain _ marks turn.loop.power _ (omega arith) turn.loop.invariant.1 w.0.left))
-          c.if-marks-n-ne0.branch,
+      elim c.if-marks-n-ne0.branch [
+        | then-marks-n-ne0 w ↦ subst (HoldsProduct _ _) (sym w.out-is) (product_marked _ marks c.loop-power.power _ (omega arith) c.loop-power.invariant.1 _ _
+            w.if-marks-n-ne0.true (c.locators-list.ensures.each _ (omega arith)) w.by_root-more.ensures)
+        | else-marks-n-ne0 w ↦ subst (HoldsProduct _ _) (sym w.out-is) (product_plain _ marks c.loop-power.power _ (omega arith) c.loop-power.invariant.1
+            w.if-marks-n-ne0.false)
+      ],
     )
 
 pub returns : goal.returns

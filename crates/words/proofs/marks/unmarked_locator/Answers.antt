@@ -6,12 +6,11 @@ use lib.Seq.{length-take-le}
 use Rattle.words.proofs.Arrays.{one_first}
 use Rattle.words.proofs.MarkedProducts.{holds_unmarked, holds_changed}
 use Rattle.words.proofs.marks.unmarked_locator.Goals as goal
-use Rattle.words.proofs.marks.unmarked_locator.Goals.{After-changed-t, After-shared_slice_known-1}
 
 pub returns-then-f-eq0 : goal.returns-then-f-eq0
 returns-then-f-eq0 c =
-    let known = (goal.at.returns-then-f-eq0 c).After-shared_slice_known-1 in
-    holds_unmarked known.before.args.s.now known.before.args.marks.now (omega arith) (λ i. omega (arith, known.shared-slice-known.given i)) _ _ _
+    let known = c in
+    holds_unmarked known.args.s.now known.args.marks.now (omega arith) (λ i. omega (arith, known.shared_slice_known-1.given i)) _ _ _
     c.shortest_register-g.ensures c.polynomial-sigma.ensures
 
 pub slice_bounds-changed-end : goal.slice_bounds-changed-end
@@ -28,7 +27,7 @@ shortest_register-g-requires-2 c = simp length-take (omega arith)
 
 pub returns : goal.returns
 returns c =
-    let changed = (goal.at.returns c).After-changed-t in
-    let start = changed.before.before.before.before.before.before in
+    let changed = c in
+    let start = changed in
     holds_changed start.args.s.now start.args.marks.now _ start.requires.2 (omega arith) (omega arith) _ _ (one_first 32)
-    changed.before.before.times-marks.ensures _ changed.changed.ensures _ _ _ c.shortest_register-g-2.ensures c.polynomial-sigma-2.ensures
+    changed.times_marks-gamma.ensures _ changed.changed-t.ensures _ _ _ c.shortest_register-g-2.ensures c.polynomial-sigma-2.ensures

@@ -1,11 +1,11 @@
 -- `shortest_register` takes one term after another: by the gap there the register is kept, changed at the same length, or made longer.
 use mathlib.Core.Path.{◌≡◌, refl}
-use mathlib.Core.Logic.{⊎_elim}
 use Prim.Native.Nat.{◌-◌}
 use native.Mathlib.Omega.{arith}
 use lib.ListN.{length}
 use Rattle.words.proofs.RegisterTurns.{turned-start, holds_len, turned_as, turn_keep, turn_same, turn_grow}
 use Rattle.words.proofs.register.shortest_register.Goals as goal
+use Rattle.words.proofs.register.shortest_register.Goals.{then-gap-eq0, else-gap-eq0+then-n-len, else-gap-eq0+else-n-len}
 
 pub loop-n-init : goal.loop-n-init
 loop-n-init c = (
@@ -34,12 +34,17 @@ pub loop-n-preserved : goal.loop-n-preserved
 loop-n-preserved c = (
   omega arith,
   omega arith,
-  ⊎_elim
-      (λ w. turned_as _ _ (turn_keep _ _ _ _ _ _ _ _ _ c.loop-n.invariant.2 (omega arith) _ refl w.0.taken) w.1 w.2 w.3 w.4 w.5 w.6 w.7)
-      (⊎_elim
-      (λ w. turned_as _ _ (turn_same _ _ _ _ _ _ _ _ _ c.loop-n.invariant.2 (omega arith) _ refl w.0.left _ _ w.3.ensures w.6.ensures w.7.taken) w.8 w.9 w.10 w.11 w.12 w.13 w.14)
-      (λ w. turned_as _ _ (turn_grow _ _ _ _ _ _ _ _ _ c.loop-n.invariant.2 (omega arith) _ refl w.0.left _ _ w.3.ensures w.6.ensures (omega (arith, w.7.left)) _ _ w.10.ensures w.14.ensures) w.16 w.17 w.18 w.19 (omega (arith, w.20)) w.21 w.22))
-      c.if-gap-eq0.branch,
+  elim c.if-gap-eq0.branch [
+    | then-gap-eq0 w ↦ turned_as _ _ (turn_keep _ _ _ _ _ _ _ _ _ c.loop-n.invariant.2 (omega arith) _ refl w.if-gap-eq0.true)
+        w.taps-is w.gaps-is w.kept-is w.kept_gaps-is w.len-is w.from-is w.last-is
+    | else-gap-eq0+then-n-len w ↦ turned_as _ _
+        (turn_same _ _ _ _ _ _ _ _ _ c.loop-n.invariant.2 (omega arith) _ refl w.if-gap-eq0.false _ _ w.blended-more.ensures w.blended-more_gaps.ensures w.if-n-len.true)
+        w.taps-is w.gaps-is w.kept-is w.kept_gaps-is w.len-is w.from-is w.last-is
+    | else-gap-eq0+else-n-len w ↦ turned_as _ _
+        (turn_grow _ _ _ _ _ _ _ _ _ c.loop-n.invariant.2 (omega arith) _ refl w.if-gap-eq0.false _ _ w.blended-more.ensures w.blended-more_gaps.ensures
+        (omega (arith, w.if-n-len.false)) _ _ w.put_behind.ensures w.put_behind-else-n-len.ensures)
+        w.taps-is w.gaps-is w.kept-is w.kept_gaps-is (omega (arith, w.len-is)) w.from-is w.last-is
+  ],
 )
 
 pub returns : goal.returns

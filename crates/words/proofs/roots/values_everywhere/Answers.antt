@@ -4,23 +4,22 @@ use Prim.Native.Nat.{◌-◌, ◌*◌}
 use native.Mathlib.Omega.{arith}
 use Rattle.words.proofs.Thirds.{rows_start, rows_turn, rows_end}
 use Rattle.words.proofs.roots.values_everywhere.Goals as goal
-use Rattle.words.proofs.roots.values_everywhere.Goals.{After-values_at-found}
 
 pub loop-row-init : goal.loop-row-init
 loop-row-init c = (omega arith, rows_start _ _ refl)
 
 pub loop-row-preserved : goal.loop-row-preserved
 loop-row-preserved c =
-    let found = (goal.at.loop-row-preserved c).After-values_at-found in (
+    let found = c in (
       omega arith,
       rows_turn
           _
           _
           (omega arith)
-          found.before.before.before.before.before.loop.invariant.1
-          found.values-at.ensures.0
-          found.values-at.ensures.1
-          found.values-at.ensures.2
+          found.loop-row.invariant.1
+          found.values_at-found.ensures.0
+          found.values_at-found.ensures.1
+          found.values_at-found.ensures.2
           c.put_row.ensures
           c.put_row-in-loop-row.ensures
           c.put_row-in-loop-row-2.ensures,

@@ -6,7 +6,6 @@ use Rattle.codewords.proofs.WordValues.{octets_of_lem}
 use Rattle.words.proofs.RowTurns.{later_is}
 use Rattle.words.proofs.WordSums.{summed_starts, summed_turn, summed_ends}
 use Rattle.words.proofs.syndromes.syndromes_from.Goals as goal
-use Rattle.words.proofs.syndromes.syndromes_from.Goals.{After-shared_slice_known-1}
 
 pub slice_bounds-points_from-end : goal.slice_bounds-points_from-end
 slice_bounds-points_from-end c = sym c.locators-list.ensures.size
@@ -25,6 +24,6 @@ loop-j-preserved c =
 
 pub returns : goal.returns
 returns c =
-    let known = (goal.at.returns c).After-shared_slice_known-1 in
-    summed_ends _ known.before.args.word.now _ c.loop-j.j c.loop-j.invariant.2 (omega arith)
-    (octets_of_lem known.before.args.word.now (λ i. omega (arith, known.shared-slice-known.given i)))
+    let known = c in
+    summed_ends _ known.args.word.now _ c.loop-j.j c.loop-j.invariant.2 (omega arith)
+    (octets_of_lem known.args.word.now (λ i. omega (arith, known.shared_slice_known-1.given i)))
