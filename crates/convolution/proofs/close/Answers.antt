@@ -7,12 +7,12 @@ use Rattle.refusals.proofs.Verdicts.{passed}
 use Rattle.convolution.specs.Coder.{first_octet}
 use Rattle.convolution.proofs.Outcomes.{LegalClose, legal_close, close_refused, close_done, closed_none, closed_some}
 use Rattle.convolution.proofs.close.Goals as goal
-use Rattle.convolution.proofs.close.Goals.{In_default, Start}
+use Rattle.convolution.proofs.close.Goals.{In_default}
 
 -- What the checks have left when they have passed.
 legal : (c : In_default) → LegalClose c.args.rate c.args.state (length c.args.symbols.now)
 legal c =
-    let start = c.before in
+    let start = c in
     let checked = c.coder_close_parameters-checked in
     legal_close start.args.rate start.args.state _ (passed (coder_close_order _ _ _ _ _) checked.result c.in_default.is checked.ensures)
 
@@ -21,7 +21,7 @@ returns-in-Refused c = close_refused _ _ _ _ c.coder_close_parameters-checked.en
 
 pub returns-then-holds-eq0 : goal.returns-then-holds-eq0
 returns-then-holds-eq0 c =
-    let start = (goal.at.returns-then-holds-eq0 c).Start in
+    let start = c in
     let checked = c.coder_close_parameters-checked in
     let none = c.if-holds-eq0.true in
     close_done start.args.rate start.args.state start.args.symbols.now checked.result checked.ensures 0 start.args.symbols.now c.in_default.is (sym none)
@@ -29,7 +29,7 @@ returns-then-holds-eq0 c =
 
 pub returns : goal.returns
 returns c =
-    let start = (goal.at.returns c).Start in
+    let start = c in
     let checked = c.coder_close_parameters-checked in
     let known = legal (goal.at.returns c).In_default in
     close_done start.args.rate start.args.state start.args.symbols.now checked.result checked.ensures start.args.state.holds _ c.in_default.is refl

@@ -3,7 +3,6 @@ use Rattle.refusals.specs.Calls.{convolve_order}
 use Rattle.refusals.proofs.Verdicts.{passed}
 use Rattle.convolution.proofs.Outcomes.{refused_outcome, done_outcome}
 use Rattle.convolution.proofs.convolve.Goals as goal
-use Rattle.convolution.proofs.convolve.Goals.{Start}
 
 pub returns-in-Refused : goal.returns-in-Refused
 returns-in-Refused c = refused_outcome _ _ _ _ _ c.convolve_parameters-checked.ensures _ c.in-Refused.is
@@ -15,7 +14,7 @@ run_on-requires c =
 
 pub returns : goal.returns
 returns c =
-    let start = (goal.at.returns c).Start in
+    let start = c in
     let checked = c.convolve_parameters-checked in
     let run = c.run_on in
     done_outcome start.args.rate start.args.state start.args.octets.now start.args.symbols.now checked.result checked.ensures run.result run.new.1.1.1.0 c.in_default.is run.ensures

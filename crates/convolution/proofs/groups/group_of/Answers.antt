@@ -6,7 +6,6 @@ use Rattle.refusals.proofs.Legal.{rate_bounds}
 use Rattle.convolution.specs.GroupWorking.{Grouped}
 use Rattle.convolution.proofs.Grouping.{grouped_2, grouped_3}
 use Rattle.convolution.proofs.groups.group_of.Goals as goal
-use Rattle.convolution.proofs.groups.group_of.Goals.{Start}
 
 pub returns-then-rate-eq2 : goal.returns-then-rate-eq2
 returns-then-rate-eq2 c = subst (λ (r : ℕ). Grouped r _) (sym c.if-rate-eq2.true) grouped_2
@@ -16,7 +15,7 @@ returns-then-rate-eq3 c = subst (λ (r : ℕ). Grouped r _) (sym c.if-rate-eq3.t
 
 pub longer_group-requires : goal.longer_group-requires
 longer_group-requires c =
-    let start = (goal.at.longer_group-requires c).Start in
+    let start = c in
     (start.requires.0, omega (arith, rate_bounds start.args.rate start.requires.0, start.requires.1, c.if-rate-eq3.false, c.if-rate-eq2.false))
 
 pub returns : goal.returns

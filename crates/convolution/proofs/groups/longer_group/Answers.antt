@@ -6,13 +6,12 @@ use Rattle.refusals.proofs.Legal.{rate_bounds}
 use Rattle.convolution.specs.GroupWorking.{Grouped}
 use Rattle.convolution.proofs.Grouping.{grouped_4, grouped_5}
 use Rattle.convolution.proofs.groups.longer_group.Goals as goal
-use Rattle.convolution.proofs.groups.longer_group.Goals.{Start}
 
 pub returns-then-rate-eq4 : goal.returns-then-rate-eq4
 returns-then-rate-eq4 c = subst (λ (r : ℕ). Grouped r _) (sym c.if-rate-eq4.true) grouped_4
 
 pub returns : goal.returns
 returns c =
-    let start = (goal.at.returns c).Start in
+    let start = c in
     let five : start.args.rate ≡ 5 = omega (arith, rate_bounds start.args.rate start.requires.0, start.requires.1, c.if-rate-eq4.false) in
     subst (λ (r : ℕ). Grouped r _) (sym five) grouped_5

@@ -2,11 +2,10 @@
 use native.Mathlib.Omega.{arith}
 use Rattle.convolution.proofs.Filling.{octet_filled}
 use Rattle.convolution.proofs.octet.octet_in.Goals as goal
-use Rattle.convolution.proofs.octet.octet_in.Goals.{Start}
 
 pub returns : goal.returns
 returns c =
-    let start = (goal.at.returns c).Start in
+    let start = c in
     octet_filled start.args.rate start.args.octet start.args.state (omega arith) start.requires.1.register
     c.sums_by_g1-first.result c.sums_by_g2.result c.inverted_at_half-second.result c.picked-sent.result
     c.sums_by_g1-first.ensures.0 c.sums_by_g2.ensures.0 c.inverted_at_half-second.ensures.0 c.picked-sent.ensures

@@ -5,11 +5,10 @@ use native.Mathlib.Omega.{arith}
 use lib.ListN.{length}
 use Rattle.convolution.proofs.Pairing.{Paired, paired_first, paired_on, nothing_in, all_paired}
 use Rattle.convolution.proofs.pairs.pairs_in.Goals as goal
-use Rattle.convolution.proofs.pairs.pairs_in.Goals.{Start}
 
 pub returns-then-n-eq0 : goal.returns-then-n-eq0
 returns-then-n-eq0 c =
-    let start = (goal.at.returns-then-n-eq0 c).Start in
+    let start = c in
     nothing_in start.args.start start.args.octets.now start.args.symbols.now start.requires.1 start.requires.2 c.if-n-eq0.true
 
 pub loop-i-init : goal.loop-i-init
@@ -17,7 +16,7 @@ loop-i-init c = (omega arith, omega (arith, c.if-n-eq0.false), refl, λ r h p. p
 
 pub loop-i-preserved : goal.loop-i-preserved
 loop-i-preserved c =
-    let start = (goal.at.loop-i-preserved c).Start in
+    let start = c in
     let at = c.loop-i in
     let octets = start.args.octets.now in
     let inside : at.i < length octets = omega arith in (
@@ -29,7 +28,7 @@ loop-i-preserved c =
 
 pub returns : goal.returns
 returns c =
-    let start = (goal.at.returns c).Start in
+    let start = c in
     let at = c.loop-i in
     let octets = start.args.octets.now in
     let flow = start.args.start in

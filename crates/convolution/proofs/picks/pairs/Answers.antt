@@ -7,7 +7,6 @@ use Rattle.convolution.specs.Coder.{low_bits}
 use Rattle.convolution.specs.Working.{picked_from}
 use Rattle.convolution.proofs.Spreading.{pairs_joined, spread_small}
 use Rattle.convolution.proofs.picks.pairs.Goals as goal
-use Rattle.convolution.proofs.picks.pairs.Goals.{Start}
 
 pub overflow_mul-result-2 : goal.overflow_mul-result-2
 overflow_mul-result-2 c = omega (arith, c.spread.ensures, spread_small 8 c.args.first)
@@ -20,7 +19,7 @@ overflow_add-result-2 c = omega (arith, c.spread.ensures, spread_small 8 c.args.
 
 pub returns : goal.returns
 returns c =
-    let start = (goal.at.returns c).Start in
+    let start = c in
     let s = start.args.state in
     let zero-place : s.place ≡ 0 = omega arith in
     record {

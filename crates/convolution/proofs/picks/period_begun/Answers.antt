@@ -5,11 +5,10 @@ use Prim.Native.Nat.{ℕ, ◌+◌, ◌-◌, ◌/◌, ◌^◌}
 use native.Mathlib.Omega.{arith}
 use Rattle.convolution.specs.Coder.{low_bits}
 use Rattle.convolution.proofs.picks.period_begun.Goals as goal
-use Rattle.convolution.proofs.picks.period_begun.Goals.{Start}
 
 pub returns : goal.returns
 returns c =
-    let start = (goal.at.returns c).Start in
+    let start = c in
     let s = start.args.picks in
     let left = s.left - (s.ahead + 1) in
     record {

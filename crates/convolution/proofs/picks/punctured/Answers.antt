@@ -8,11 +8,10 @@ use Rattle.refusals.specs.Sizes.{period}
 use Rattle.convolution.specs.Working.{ahead}
 use Rattle.convolution.proofs.Puncturing.{begun_turn, begun_ahead, some_period, starts, starts_ahead, ends_place, ends_small, second_none, ahead_small}
 use Rattle.convolution.proofs.picks.punctured.Goals as goal
-use Rattle.convolution.proofs.picks.punctured.Goals.{After-way_told-1}
 
 pub loop-s-init : goal.loop-s-init
 loop-s-init c =
-    let start = (goal.at.loop-s-init c).After-way_told-1 in
+    let start = c in
     let s = start.args.state in
     let a = c.ahead_of_lem.result in (
       omega arith,
@@ -24,7 +23,7 @@ loop-s-init c =
 
 pub period_begun-s-requires : goal.period_begun-s-requires
 period_begun-s-requires c =
-    let start = (goal.at.period_begun-s-requires c).After-way_told-1 in
+    let start = c in
     let i = c.loop-s.invariant in
     (some_period start.args.rate start.args.period start.args.c1.now start.requires.0, c.loop-s-test.true, i.0, omega (arith, i.2))
 
@@ -33,7 +32,7 @@ loop-s-smaller c = omega (arith, c.period_begun-s.ensures.left)
 
 pub loop-s-preserved : goal.loop-s-preserved
 loop-s-preserved c =
-    let start = (goal.at.loop-s-preserved c).After-way_told-1 in
+    let start = c in
     let i = c.loop-s.invariant in
     let s = c.loop-s.s in
     let begun = c.period_begun-s.ensures in
@@ -57,7 +56,7 @@ overflow_add-result c = omega (arith, c.loop-s.invariant.2)
 
 pub returns : goal.returns
 returns c =
-    let start = (goal.at.returns c).After-way_told-1 in
+    let start = c in
     let at = c.loop-s in
     let s = at.s in
     let st = start.args.state in

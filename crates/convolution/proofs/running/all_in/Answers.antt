@@ -8,11 +8,10 @@ use Rattle.convolution.specs.Working.{stream, Rows, Sound, Run}
 use Rattle.convolution.proofs.Pairing.{pairs_room}
 use Rattle.convolution.proofs.Turning.{going_first, going_underway, going_on, going_over}
 use Rattle.convolution.proofs.running.all_in.Goals as goal
-use Rattle.convolution.proofs.running.all_in.Goals.{Start}
 
 pub groups_in-requires : goal.groups_in-requires
 groups_in-requires c =
-    let start = (goal.at.groups_in-requires c).Start in
+    let start = c in
     (start.requires.0, start.requires.1, start.requires.2, c.if-rate-ne1.true)
 
 pub returns-then-rate-ne1 : goal.returns-then-rate-ne1
@@ -20,7 +19,7 @@ returns-then-rate-ne1 c = c.groups_in.ensures
 
 pub pairs_in-requires : goal.pairs_in-requires
 pairs_in-requires c =
-    let start = (goal.at.pairs_in-requires c).Start in
+    let start = c in
     let half : start.args.rate ≡ 1 = c.if-rate-ne1.false in
     let none = c.if-start-eq0.true in
     let sound = subst (λ (r : ℕ). Sound r start.args.start) half start.requires.1 in
@@ -29,18 +28,18 @@ pairs_in-requires c =
 
 pub returns-then-start-eq0 : goal.returns-then-start-eq0
 returns-then-start-eq0 c =
-    let start = (goal.at.returns-then-start-eq0 c).Start in
+    let start = c in
     let half : start.args.rate ≡ 1 = c.if-rate-ne1.false in
     subst (λ (r : ℕ). Run r start.args.start (bits_of start.args.octets.now) c.pairs_in.result c.pairs_in.new.1.1.1.0) (sym half) c.pairs_in.ensures
 
 pub loop-at-init : goal.loop-at-init
 loop-at-init c =
-    let start = (goal.at.loop-at-init c).Start in
+    let start = c in
     going_first start.args.rate start.args.octets.now start.args.symbols.now start.args.start start.requires.1
 
 pub one_in-at-requires : goal.one_in-at-requires
 one_in-at-requires c =
-    let start = (goal.at.one_in-at-requires c).Start in
+    let start = c in
     let at = c.loop-at in
     (start.requires.0, going_underway start.args.rate start.args.octets.now start.args.symbols.now start.args.start at.symbols at.at at.invariant start.requires.2, c.loop-at-test.true)
 
@@ -49,7 +48,7 @@ loop-at-smaller c = omega (arith, c.one_in-at.ensures.further, c.loop-at-test.tr
 
 pub loop-at-preserved : goal.loop-at-preserved
 loop-at-preserved c =
-    let start = (goal.at.loop-at-preserved c).Start in
+    let start = c in
     let at = c.loop-at in
     going_on start.args.rate start.args.octets.now start.args.symbols.now start.args.start at.symbols at.at at.invariant _ c.one_in-at.result c.one_in-at.ensures
 
@@ -58,6 +57,6 @@ shape_of-symbols c = c.loop-at.invariant.long
 
 pub returns : goal.returns
 returns c =
-    let start = (goal.at.returns c).Start in
+    let start = c in
     let at = c.loop-at in
     going_over start.args.rate start.args.octets.now start.args.symbols.now start.args.start at.symbols at.at at.invariant (omega (arith, c.loop-at-test.false))

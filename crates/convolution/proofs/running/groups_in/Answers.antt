@@ -3,19 +3,18 @@ use Prim.Native.Nat.{◌-◌}
 use native.Mathlib.Omega.{arith}
 use Rattle.convolution.proofs.Turning.{going_first, going_underway, going_on, going_over}
 use Rattle.convolution.proofs.running.groups_in.Goals as goal
-use Rattle.convolution.proofs.running.groups_in.Goals.{Start}
 
 pub group_of-group-requires : goal.group_of-group-requires
 group_of-group-requires c = (c.requires.0.legal, c.requires.3)
 
 pub loop-at-init : goal.loop-at-init
 loop-at-init c =
-    let start = (goal.at.loop-at-init c).Start in
+    let start = c in
     going_first start.args.rate start.args.octets.now start.args.symbols.now start.args.start start.requires.1
 
 pub turn-at-requires : goal.turn-at-requires
 turn-at-requires c =
-    let start = (goal.at.turn-at-requires c).Start in
+    let start = c in
     let at = c.loop-at in
     let under = going_underway start.args.rate start.args.octets.now start.args.symbols.now start.args.start at.symbols at.at at.invariant start.requires.2 in
     (c.requires.0, c.Group-of.ensures, under, c.loop-at-test.true)
@@ -25,7 +24,7 @@ loop-at-smaller c = omega (arith, c.turn-at.ensures.further, c.loop-at-test.true
 
 pub loop-at-preserved : goal.loop-at-preserved
 loop-at-preserved c =
-    let start = (goal.at.loop-at-preserved c).Start in
+    let start = c in
     let at = c.loop-at in
     going_on start.args.rate start.args.octets.now start.args.symbols.now start.args.start at.symbols at.at at.invariant _ c.turn-at.result c.turn-at.ensures
 
@@ -34,6 +33,6 @@ shape_of-symbols c = c.loop-at.invariant.long
 
 pub returns : goal.returns
 returns c =
-    let start = (goal.at.returns c).Start in
+    let start = c in
     let at = c.loop-at in
     going_over start.args.rate start.args.octets.now start.args.symbols.now start.args.start at.symbols at.at at.invariant (omega (arith, c.loop-at-test.false))

@@ -6,21 +6,20 @@ use Rattle.convolution.proofs.Accepting.{known, not_long, start_sound, room_for_
 use Rattle.convolution.proofs.Packing.{octets_known}
 use Rattle.convolution.proofs.Tables.{listed, period_most}
 use Rattle.convolution.proofs.running.run_on.Goals as goal
-use Rattle.convolution.proofs.running.run_on.Goals.{Start}
 
 pub row_of-row-requires : goal.row_of-row-requires
 row_of-row-requires c =
-    let start = (goal.at.row_of-row-requires c).Start in
+    let start = c in
     (known start.args.rate start.args.state start.args.octets.now start.args.symbols.now start.requires).coder.rate
 
 pub opened-start-requires : goal.opened-start-requires
 opened-start-requires c =
-    let start = (goal.at.opened-start-requires c).Start in
+    let start = c in
     (known start.args.rate start.args.state start.args.octets.now start.args.symbols.now start.requires).coder.holds
 
 pub all_in-end-requires : goal.all_in-end-requires
 all_in-end-requires c =
-    let start = (goal.at.all_in-end-requires c).Start in
+    let start = c in
     let first = c.opened-start in (
       listed start.args.rate c.row_of-row.result (known start.args.rate start.args.state start.args.octets.now start.args.symbols.now start.requires).coder.rate c.row_of-row.ensures.0,
       start_sound start.args.rate start.args.state start.args.octets.now start.args.symbols.now start.requires first.result first.ensures,
@@ -29,7 +28,7 @@ all_in-end-requires c =
 
 pub own_symbols-count-requires : goal.own_symbols-count-requires
 own_symbols-count-requires c =
-    let start = (goal.at.own_symbols-count-requires c).Start in
+    let start = c in
     let first = c.opened-start in
     let run = c.all_in-end in
     let long : length run.new.1.1.1.1.0 ≡ length start.args.symbols.now = run.auto.1.1.1.1.0 in
@@ -39,13 +38,13 @@ own_symbols-count-requires c =
 
 pub handed-next-requires : goal.handed-next-requires
 handed-next-requires c =
-    let start = (goal.at.handed-next-requires c).Start in
+    let start = c in
     let sound = c.all_in-end.ensures.sound in
     (sound.register, omega (arith, sound.place, period_most start.args.rate (known start.args.rate start.args.state start.args.octets.now start.args.symbols.now start.requires).coder.rate), sound.held, sound.holds)
 
 pub returns : goal.returns
 returns c =
-    let start = (goal.at.returns c).Start in
+    let start = c in
     let first = c.opened-start in
     let run = c.all_in-end in
     let long : length run.new.1.1.1.1.0 ≡ length start.args.symbols.now = run.auto.1.1.1.1.0 in

@@ -4,16 +4,15 @@ use Prim.Native.Nat.{ℕ, ◌*◌, ◌^◌, ◌<◌}
 use native.Mathlib.Omega.{arith}
 use Rattle.convolution.proofs.Turning.{six_or_eight, group_room, group_turned}
 use Rattle.convolution.proofs.turns.group_in.Goals as goal
-use Rattle.convolution.proofs.turns.group_in.Goals.{Start}
 
 pub overflow_mul-group : goal.overflow_mul-group
 overflow_mul-group c =
-    let start = (goal.at.overflow_mul-group c).Start in
+    let start = c in
     omega (arith, six_or_eight start.args.group.filled start.requires.0.filled)
 
 pub behind_held-out-requires : goal.behind_held-out-requires
 behind_held-out-requires c =
-    let start = (goal.at.behind_held-out-requires c).Start in
+    let start = c in
     let window = c.window_of-window in
     let first = c.wide_by_g1 in
     let second = c.wide_by_g2 in
@@ -24,7 +23,7 @@ behind_held-out-requires c =
 
 pub write_group-requires : goal.write_group-requires
 write_group-requires c =
-    let start = (goal.at.write_group-requires c).Start in
+    let start = c in
     let window = c.window_of-window in
     let first = c.wide_by_g1 in
     let second = c.wide_by_g2 in
@@ -38,7 +37,7 @@ overflow_add-result c = omega (arith, c.requires.3, c.well-formed.1.1.0)
 
 pub overflow_add-result-2 : goal.overflow_add-result-2
 overflow_add-result-2 c =
-    let start = (goal.at.overflow_add-result-2 c).Start in
+    let start = c in
     let window = c.window_of-window in
     let first = c.wide_by_g1 in
     let second = c.wide_by_g2 in
@@ -49,7 +48,7 @@ overflow_add-result-2 c =
 
 pub returns : goal.returns
 returns c =
-    let start = (goal.at.returns c).Start in
+    let start = c in
     let window = c.window_of-window in
     let first = c.wide_by_g1 in
     let second = c.wide_by_g2 in

@@ -1,14 +1,13 @@
 -- `turn` meets its contract, whichever of the two it takes.
 use native.Mathlib.Omega.{arith}
 use Rattle.convolution.proofs.turns.turn.Goals as goal
-use Rattle.convolution.proofs.turns.turn.Goals.{Start}
 
 pub overflow_sub-octets : goal.overflow_sub-octets
 overflow_sub-octets c = omega (arith, c.requires.3)
 
 pub group_in-requires : goal.group_in-requires
 group_in-requires c =
-    let start = (goal.at.group_in-requires c).Start in
+    let start = c in
     (start.requires.1, start.requires.2, c.if-flow-eq0.true, omega (arith, c.if-octets-at.true, start.requires.3))
 
 pub shape_of-symbols-then-octets-at : goal.shape_of-symbols-then-octets-at
@@ -19,7 +18,7 @@ returns-then-octets-at c = c.group_in.ensures
 
 pub one_in-requires : goal.one_in-requires
 one_in-requires c =
-    let start = (goal.at.one_in-requires c).Start in
+    let start = c in
     (start.requires.0, start.requires.2, start.requires.3)
 
 pub shape_of-symbols : goal.shape_of-symbols

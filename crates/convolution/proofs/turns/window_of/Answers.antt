@@ -6,7 +6,6 @@ use lib.ListN.{get_or, drop, take}
 use Rattle.convolution.specs.Coder.{low_bits, bits_of}
 use Rattle.convolution.proofs.Turning.{window_small, window_above, window-below}
 use Rattle.convolution.proofs.turns.window_of.Goals as goal
-use Rattle.convolution.proofs.turns.window_of.Goals.{Start}
 
 pub loop-k-init : goal.loop-k-init
 loop-k-init c = (omega arith, omega arith, refl)
@@ -26,7 +25,7 @@ overflow_add-window-in-loop-k c =
 
 pub loop-k-preserved : goal.loop-k-preserved
 loop-k-preserved c =
-    let start = (goal.at.loop-k-preserved c).Start in
+    let start = c in
     let at = c.loop-k in
     let octets = start.args.octets.now in
     let octet = get_or octets (start.args.at + at.k) 0 in
@@ -38,7 +37,7 @@ loop-k-preserved c =
 
 pub returns : goal.returns
 returns c =
-    let start = (goal.at.returns c).Start in
+    let start = c in
     let at = c.loop-k in
     let all : at.k ≡ start.args.n = omega arith in
     subst (λ (n : ℕ). (at.window / 2 ^ (8 * n) ≡ start.args.register) × (low_bits (8 * n) at.window ≡ bits_of (take n (drop start.args.at start.args.octets.now)))) all (at.invariant.1, at.invariant.2)

@@ -2,17 +2,16 @@
 use native.Mathlib.Omega.{arith}
 use Rattle.convolution.proofs.Turning.{behind_none, behind_fits, behind_held}
 use Rattle.convolution.proofs.writing.behind_held.Goals as goal
-use Rattle.convolution.proofs.writing.behind_held.Goals.{Start}
 
 pub returns-then-holds-eq0 : goal.returns-then-holds-eq0
 returns-then-holds-eq0 c = behind_none c.args.held c.args.holds c.args.symbols c.args.n c.if-holds-eq0.true
 
 pub overflow_add-result : goal.overflow_add-result
 overflow_add-result c =
-    let start = (goal.at.overflow_add-result c).Start in
+    let start = c in
     omega (arith, behind_fits start.args.held start.args.holds start.args.symbols start.args.n start.requires.0 start.requires.1 start.requires.2 start.requires.3)
 
 pub returns : goal.returns
 returns c =
-    let start = (goal.at.returns c).Start in
+    let start = c in
     behind_held start.args.held start.args.holds start.args.symbols start.args.n start.requires.0 start.requires.1 start.requires.2 start.requires.3

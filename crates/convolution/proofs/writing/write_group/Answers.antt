@@ -4,21 +4,20 @@ use mathlib.Core.Path.{◌≡◌}
 use native.Mathlib.Omega.{arith}
 use Rattle.convolution.proofs.Turning.{put_same}
 use Rattle.convolution.proofs.writing.write_group.Goals as goal
-use Rattle.convolution.proofs.writing.write_group.Goals.{Start}
 
 pub returns-then-n-eq6 : goal.returns-then-n-eq6
 returns-then-n-eq6 c =
-    let start = (goal.at.returns-then-n-eq6 c).Start in
+    let start = c in
     put_same start.args.symbols.now _ start.args.at start.args.number start.args.n 6 c.if-n-eq6.true c.write_number.ensures
 
 pub write_number-requires-2 : goal.write_number-requires-2
 write_number-requires-2 c =
-    let start = (goal.at.write_number-requires-2 c).Start in
+    let start = c in
     let eight : start.args.n ≡ 8 = ⊎_elim (λ e. absurd (c.if-n-eq6.false e)) (λ e. e) start.requires.0 in
     (omega arith, omega (arith, start.requires.1))
 
 pub returns : goal.returns
 returns c =
-    let start = (goal.at.returns c).Start in
+    let start = c in
     let eight : start.args.n ≡ 8 = ⊎_elim (λ e. absurd (c.if-n-eq6.false e)) (λ e. e) start.requires.0 in
     put_same start.args.symbols.now _ start.args.at start.args.number start.args.n 8 eight c.write_number-2.ensures

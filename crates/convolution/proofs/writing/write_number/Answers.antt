@@ -7,18 +7,17 @@ use lib.ListN.{take, set, length-set}
 use Rattle.convolution.specs.Coder.{low_bits, bits_of}
 use Rattle.convolution.proofs.Stream.{octet_written}
 use Rattle.convolution.proofs.writing.write_number.Goals as goal
-use Rattle.convolution.proofs.writing.write_number.Goals.{Start}
 
 pub loop-k-init : goal.loop-k-init
 loop-k-init c =
-    let start = (goal.at.loop-k-init c).Start in
+    let start = c in
     let none : start.args.at + 0 ≡ start.args.at = omega arith in
     let all : 8 * (start.args.n - 0) ≡ 8 * start.args.n = omega arith in
     (omega arith, refl, ap₂ (λ (m k : ℕ). bits_of (take m start.args.symbols.now) ++ low_bits k start.args.number) none all)
 
 pub loop-k-preserved : goal.loop-k-preserved
 loop-k-preserved c =
-    let start = (goal.at.loop-k-preserved c).Start in
+    let start = c in
     let at = c.loop-k in
     let place = start.args.at + at.k in
     let number = start.args.number in
@@ -37,7 +36,7 @@ shape_of-symbols c = c.loop-k.invariant.1
 
 pub returns : goal.returns
 returns c =
-    let start = (goal.at.returns c).Start in
+    let start = c in
     let at = c.loop-k in
     let all : start.args.at + at.k ≡ start.args.at + start.args.n = omega arith in
     let none : 8 * (start.args.n - at.k) ≡ 0 = omega arith in

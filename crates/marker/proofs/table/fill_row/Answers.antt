@@ -2,20 +2,19 @@
 use Rattle.std.proofs.Common.{◌-◌, sym, refl, ◌∙◌, arith}
 use Rattle.marker.proofs.OctetTable.{octet_most, row-sum, filled_upto, filled_turn}
 use Rattle.marker.proofs.table.fill_row.Goals as goal
-use Rattle.marker.proofs.table.fill_row.Goals.{After-high-1}
 
 pub loop-low-init : goal.loop-low-init
 loop-low-init c = (omega arith, refl, filled_upto _ (omega arith) c.requires.2)
 
 pub overflow_add-table-in-loop-low-2 : goal.overflow_add-table-in-loop-low-2
 overflow_add-table-in-loop-low-2 c =
-    let given = (goal.at.overflow_add-table-in-loop-low-2 c).After-high-1 in
+    let given = c in
     let low = c.loop-low.low in
     omega (arith, octet_most _ (row-sum given.args.row low (omega arith) (omega arith) given.requires.1))
 
 pub loop-low-preserved : goal.loop-low-preserved
 loop-low-preserved c =
-    let given = (goal.at.loop-low-preserved c).After-high-1 in
+    let given = c in
     let loop = c.loop-low in
     let sum = row-sum given.args.row loop.low (omega arith) (omega arith) given.requires.1 in
     let F = filled_turn _ _ _ _ _ (omega arith) sum loop.invariant.2 in

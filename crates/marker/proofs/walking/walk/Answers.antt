@@ -3,7 +3,7 @@
 use Rattle.std.proofs.Common.{◌-◌, sym, refl, ◌∙◌, ⊎_elim, arith, rules, leb-false, leb-true}
 use Rattle.marker.proofs.Sofar.{Stopped, begins, moved, onward, found, out_of_budget, none_there, ended, spent, absent}
 use Rattle.marker.proofs.walking.walk.Goals as goal
-use Rattle.marker.proofs.walking.walk.Goals.{After-bit_entered-window, Left-octets}
+use Rattle.marker.proofs.walking.walk.Goals.{Left-octets}
 
 shared-slice-read-bit-entered :
     tie.Need-shared-slice-read-bit-entered invariant-loop decreases-loop invariant-octets decreases-octets
@@ -32,10 +32,10 @@ loop-b-init c = (omega arith, omega arith, refl, c.octets.invariant.4)
 
 pub returns-then-is_near : goal.returns-then-is_near
 returns-then-is_near c =
-    let entered = (goal.at.returns-then-is_near c).After-bit_entered-window in
-    let turn = entered.before.before in
+    let entered = c in
+    let turn = entered in
     rw c.found.ensures
-    (found _ _ turn.loop-test.true turn.before.loop.invariant.3 entered.bit-entered.ensures c.if-looked-budget.false (refl, refl)
+    (found _ _ turn.loop-b-test.true turn.loop-b.invariant.3 entered.bit_entered-window.ensures c.if-looked-budget.false (refl, refl)
     (leb-true _ _ (sym c.is_near.ensures ∙ c.if-is_near.true)) (omega arith))
 
 pub loop-b-preserved : goal.loop-b-preserved
@@ -43,9 +43,9 @@ loop-b-preserved c = (
   omega arith,
   omega arith,
   refl,
-  let entered = (goal.at.loop-b-preserved c).After-bit_entered-window in
-      let turn = entered.before.before in
-      onward _ _ turn.loop-test.true turn.before.loop.invariant.3 entered.bit-entered.ensures c.if-looked-budget.false (refl, refl)
+  let entered = c in
+      let turn = entered in
+      onward _ _ turn.loop-b-test.true turn.loop-b.invariant.3 entered.bit_entered-window.ensures c.if-looked-budget.false (refl, refl)
       (leb-false _ _ (sym c.is_near.ensures ∙ c.if-is_near.false)),
 )
 

@@ -5,12 +5,8 @@ use Rattle.field.specs.Line.{to_line, to_conventional}
 use Rattle.codewords.proofs.Checks.{generator8}
 use Rattle.encoding.specs.Working.{table_rows}
 use Rattle.encoding.proofs.GeneratorRoots.{table_8}
-use Rattle.encoding.proofs.encoder.bits_8.Statement.{statement}
-use Rattle.encoding.proofs.encoder.bits_8.Tie as tie
+use Rattle.encoding.proofs.encoder.bits_8.Goals as goal
 
-returns : tie.Need-returns
+pub returns : goal.returns
 unfolding generator8 table_rows to_line to_conventional ◌·◌ shift_and_add times_alpha where_set ◌⊕◌
 returns c = table_8 _ refl
-
-pub bits-8-spec : {M : Type 1} → statement M
-bits-8-spec = tie.close (tie.spec returns)

@@ -5,12 +5,8 @@ use Rattle.field.specs.Line.{to_line, to_conventional}
 use Rattle.codewords.proofs.Checks.{generator16}
 use Rattle.encoding.specs.Working.{table_rows}
 use Rattle.encoding.proofs.GeneratorRoots.{table_16}
-use Rattle.encoding.proofs.encoder.bits_16.Statement.{statement}
-use Rattle.encoding.proofs.encoder.bits_16.Tie as tie
+use Rattle.encoding.proofs.encoder.bits_16.Goals as goal
 
-returns : tie.Need-returns
+pub returns : goal.returns
 unfolding generator16 table_rows to_line to_conventional ◌·◌ shift_and_add times_alpha where_set ◌⊕◌
 returns c = table_16 _ refl
-
-pub bits-16-spec : {M : Type 1} → statement M
-bits-16-spec = tie.close (tie.spec returns)
