@@ -17,4 +17,4 @@ returns c =
     let start = c in
     let checked = c.convolve_parameters-checked in
     let run = c.run_on in
-    done_outcome start.args.rate start.args.state start.args.octets.now start.args.symbols.now checked.result checked.ensures run.result run.new.1.1.1.0 c.in_default.is run.ensures
+    done_outcome start.args.rate start.args.state start.args.octets.now start.args.symbols.now checked.result checked.ensures run.result run.new.symbols c.in_default.is run.ensures

@@ -13,12 +13,12 @@ pub loop-s-init : goal.loop-s-init
 loop-s-init c =
     let start = c in
     let s = start.args.state in
-    let a = c.ahead_of_lem.result in (
+    let a = c.ahead_of.result in (
       omega arith,
-      subst (λ (n : ℕ). n < start.args.period) (sym c.ahead_of_lem.ensures) (ahead_small start.args.period s.place start.requires.1),
+      subst (λ (n : ℕ). n < start.args.period) (sym c.ahead_of.ensures) (ahead_small start.args.period s.place start.requires.1),
       omega (arith, start.requires.2),
-      ap (λ (l : List ℕ). low_bits s.holds s.held ++ l) (starts start.args.rate start.args.period start.args.c1.now start.requires.0 s.place start.args.first start.requires.1 start.args.second c.merged-both.result a c.merged-both.ensures c.ahead_of_lem.ensures),
-      starts_ahead start.args.rate start.args.period start.args.c1.now start.requires.0 s.place start.args.first start.requires.1 a c.ahead_of_lem.ensures,
+      ap (λ (l : List ℕ). low_bits s.holds s.held ++ l) (starts start.args.rate start.args.period start.args.c1.now start.requires.0 s.place start.args.first start.requires.1 start.args.second c.merged-both.result a c.merged-both.ensures c.ahead_of.ensures),
+      starts_ahead start.args.rate start.args.period start.args.c1.now start.requires.0 s.place start.args.first start.requires.1 a c.ahead_of.ensures,
     )
 
 pub period_begun-s-requires : goal.period_begun-s-requires

@@ -30,7 +30,7 @@ pub returns-then-start-eq0 : goal.returns-then-start-eq0
 returns-then-start-eq0 c =
     let start = c in
     let half : start.args.rate ≡ 1 = c.if-rate-ne1.false in
-    subst (λ (r : ℕ). Run r start.args.start (bits_of start.args.octets.now) c.pairs_in.result c.pairs_in.new.1.1.1.0) (sym half) c.pairs_in.ensures
+    subst (λ (r : ℕ). Run r start.args.start (bits_of start.args.octets.now) c.pairs_in.result c.pairs_in.new.symbols) (sym half) c.pairs_in.ensures
 
 pub loop-at-init : goal.loop-at-init
 loop-at-init c =

@@ -17,7 +17,7 @@ turn-at-requires c =
     let start = c in
     let at = c.loop-at in
     let under = going_underway start.args.rate start.args.octets.now start.args.symbols.now start.args.start at.symbols at.at at.invariant start.requires.2 in
-    (c.requires.0, c.Group-of.ensures, under, c.loop-at-test.true)
+    (c.requires.0, c.group_of-group.ensures, under, c.loop-at-test.true)
 
 pub loop-at-smaller : goal.loop-at-smaller
 loop-at-smaller c = omega (arith, c.turn-at.ensures.further, c.loop-at-test.true)

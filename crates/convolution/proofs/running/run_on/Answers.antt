@@ -31,9 +31,9 @@ own_symbols-count-requires c =
     let start = c in
     let first = c.opened-start in
     let run = c.all_in-end in
-    let long : length run.new.1.1.1.1.0 ≡ length start.args.symbols.now = run.auto.1.1.1.1.0 in
+    let long : length run.new.symbols ≡ length start.args.symbols.now = run.auto.symbols in
     let few = not_long start.args.rate start.args.state start.args.octets.now start.args.symbols.now start.requires in
-    let most = enough start.args.rate start.args.state start.args.octets.now start.args.symbols.now start.requires first.result first.ensures run.result run.new.1.1.1.1.0 run.ensures long (octets_known run.new.1.1.1.1.0 (λ k h. omega (arith, c.slice_known-2-1.given k))) in
+    let most = enough start.args.rate start.args.state start.args.octets.now start.args.symbols.now start.requires first.result first.ensures run.result run.new.symbols run.ensures long (octets_known run.new.symbols (λ k h. omega (arith, c.slice_known-2-1.given k))) in
     (omega arith, run.ensures.sound.holds, omega arith)
 
 pub handed-next-requires : goal.handed-next-requires
@@ -47,5 +47,5 @@ returns c =
     let start = c in
     let first = c.opened-start in
     let run = c.all_in-end in
-    let long : length run.new.1.1.1.1.0 ≡ length start.args.symbols.now = run.auto.1.1.1.1.0 in
-    accepted start.args.rate start.args.state start.args.octets.now start.args.symbols.now start.requires first.result first.ensures run.result run.new.1.1.1.1.0 run.ensures long (octets_known run.new.1.1.1.1.0 (λ k h. omega (arith, c.slice_known-2-1.given k))) c.handed-next.result c.own_symbols-count.result c.handed-next.ensures (omega (arith, c.own_symbols-count.ensures, long))
+    let long : length run.new.symbols ≡ length start.args.symbols.now = run.auto.symbols in
+    accepted start.args.rate start.args.state start.args.octets.now start.args.symbols.now start.requires first.result first.ensures run.result run.new.symbols run.ensures long (octets_known run.new.symbols (λ k h. omega (arith, c.slice_known-2-1.given k))) c.handed-next.result c.own_symbols-count.result c.handed-next.ensures (omega (arith, c.own_symbols-count.ensures, long))

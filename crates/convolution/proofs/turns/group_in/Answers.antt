@@ -33,7 +33,7 @@ write_group-requires c =
     (start.requires.0.filled, fits)
 
 pub overflow_add-result : goal.overflow_add-result
-overflow_add-result c = omega (arith, c.requires.3, c.well-formed.1.1.0)
+overflow_add-result c = omega (arith, c.requires.3)
 
 pub overflow_add-result-2 : goal.overflow_add-result-2
 overflow_add-result-2 c =

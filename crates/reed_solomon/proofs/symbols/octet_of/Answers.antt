@@ -4,8 +4,7 @@ use Prim.Native.Nat.{ℕ, ◌+◌, ◌*◌, ◌^◌, ◌≤◌, ◌<◌}
 use native.Mathlib.Nat.{add-le-add, mul-le-mul, lt_of_le_of_lt}
 use native.Mathlib.Omega.{arith}
 use lib.Dec.{lit<}
-use Rattle.reed_solomon.proofs.symbols.octet_of.Statement.{statement}
-use Rattle.reed_solomon.proofs.symbols.octet_of.Tie as tie
+use Rattle.reed_solomon.proofs.symbols.octet_of.Goals as goal
 
 product-fits : {a b : ℕ} → a ≤ 255 → b ≤ 8 → a * b < 2 ^ 64
 product-fits ha hb = lt_of_le_of_lt (mul-le-mul ha hb) (lit< tt)
@@ -13,14 +12,11 @@ product-fits ha hb = lt_of_le_of_lt (mul-le-mul ha hb) (lit< tt)
 sum_fits : {a b n : ℕ} → a ≤ 255 → b ≤ 8 → n ≤ 255 → a * b + n < 2 ^ 64
 sum_fits ha hb hn = lt_of_le_of_lt (add-le-add (mul-le-mul ha hb) hn) (lit< tt)
 
-mul-result : tie.Need-overflow-mul-result
-mul-result c = record { fits = product-fits (omega arith) (omega arith) }
+pub overflow_mul-result : goal.overflow_mul-result
+overflow_mul-result c = record { fits = product-fits (omega arith) (omega arith) }
 
-add-result : tie.Need-overflow-add-result
-add-result c = record { fits = sum_fits (omega arith) (omega arith) (omega arith) }
+pub overflow_add-result : goal.overflow_add-result
+overflow_add-result c = record { fits = sum_fits (omega arith) (omega arith) (omega arith) }
 
-returns : tie.Need-returns
+pub returns : goal.returns
 returns c = refl
-
-pub octet-of-spec : {M : Type 1} → statement M
-octet-of-spec = tie.close (tie.spec mul-result add-result returns)

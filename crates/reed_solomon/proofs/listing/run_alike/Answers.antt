@@ -1,0 +1,31 @@
+-- `run_alike`: if no octet of the run has differed, those before the k-th are the same.
+use mathlib.Core.Path.{◌≡◌, sym, ◌∙◌, subst}
+use mathlib.Core.Logic.{⊎_elim}
+use Prim.Native.Nat.{ℕ, ◌-◌, ◌+◌}
+use native.Mathlib.Omega.{arith}
+use Rattle.reed_solomon.specs.SalvageWorking.{Alike}
+use Rattle.reed_solomon.proofs.ChangeLists.{alike_turn}
+use Rattle.reed_solomon.proofs.listing.run_alike.Goals as goal
+
+pub returns-then-end-from-ne16 : goal.returns-then-end-from-ne16
+returns-then-end-from-ne16 c = λ y. let z : ◌≡◌ {A = ℕ} 0 1 = cc in absurd (omega arith)
+
+pub loop-k-init : goal.loop-k-init
+loop-k-init c = (omega arith, c.if-end-from-ne16.false, λ y at l h. absurd (omega arith))
+
+pub loop-k-preserved : goal.loop-k-preserved
+loop-k-preserved c =
+    let start = c in
+    let turn = c.loop-k in (
+      omega arith,
+      turn.invariant.1,
+      λ y. ⊎_elim (λ differ. let was = differ.1 in let z : ◌≡◌ {A = ℕ} 0 1 = cc in absurd (omega arith))
+          (λ same. alike_turn start.args.block.now start.args.mended.now start.args.from turn.k (turn.invariant.2 (sym same.1 ∙ y)) same.0.left) c.if-block-from.branch,
+    )
+
+pub returns : goal.returns
+returns c =
+    let start = c in
+    let turn = c.loop-k in
+    let end : start.args.from + turn.k ≡ start.args.end = omega arith in
+    λ y. subst (λ (n : ℕ). Alike start.args.from n start.args.block.now start.args.mended.now) end (turn.invariant.2 y)

@@ -1,0 +1,25 @@
+-- `has_checks` looks at one word after another, and leaves at the first whose row does not stand.
+use mathlib.Core.Path.{◌≡◌}
+use Prim.Native.Nat.{ℕ, ◌-◌}
+use native.Mathlib.Omega.{arith}
+use borrow.Author.Tests.{not-false}
+use Rattle.reed_solomon.proofs.StandingChecks.{seen_turn, seen_ends}
+use Rattle.reed_solomon.proofs.recoding.has_checks.Goals as goal
+
+pub loop-w-init : goal.loop-w-init
+loop-w-init c = (omega arith, λ v h. absurd (omega arith))
+
+pub row_stands-requires : goal.row_stands-requires
+row_stands-requires c = (omega arith, omega arith, omega arith, omega arith)
+
+pub returns-then-not-row_stands : goal.returns-then-not-row_stands
+returns-then-not-row_stands c = λ e. let clash : ◌≡◌ {A = ℕ} 0 1 = cc in absurd (omega arith)
+
+pub loop-w-preserved : goal.loop-w-preserved
+loop-w-preserved c = (
+  omega arith,
+  seen_turn c.args.rows _ _ c.args.block.now c.loop-w.w (c.row_stands.ensures (not-false _ c.if-not-row_stands.false)) c.loop-w.invariant.1,
+)
+
+pub returns : goal.returns
+returns c = λ e. seen_ends c.args.rows _ _ c.args.block.now c.loop-w.w (omega arith) c.loop-w.invariant.1
