@@ -109,6 +109,7 @@ module _ (stream : List ℕ) (small : (j : ℕ) → get_or stream j 0 < 256) whe
         counted = N.counted ∙ rw same_length;
         affordable = N.affordable;
       }
+  looked_inverted tolerance start budget legal (Refused _) F = elim F [ ]
   looked_inverted tolerance start budget legal (Spent next looked) S =
       record {
         inside = omega (arith, same_length, S.inside);

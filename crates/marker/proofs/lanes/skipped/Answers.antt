@@ -1,6 +1,5 @@
 -- `skipped` goes on behind the octets passed, and behind those in which bit by bit no place fits.
 use Rattle.std.proofs.Common.{◌-◌, arith}
-use borrow.Author.Tests.{not-false}
 use Rattle.marker.proofs.Passing.{none_joined}
 use Rattle.marker.proofs.lanes.skipped.Goals as goal
 
@@ -17,7 +16,7 @@ pub loop-i-preserved : goal.loop-i-preserved
 loop-i-preserved c =
     let front = c.loop-i.invariant.2 in
     let near = c.passed-near.ensures in
-    let none = c.none_fits.ensures (not-false _ c.if-not-none_fits.false) in
+    let none = c.none_fits.ensures c.if-not-none_fits.false in
     (omega arith, c.next_of-next.ensures.1, none_joined _ _ _ _ _ (none_joined _ _ _ _ _ front near.2) none)
 
 pub returns : goal.returns

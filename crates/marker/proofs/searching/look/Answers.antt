@@ -8,10 +8,6 @@ use Rattle.marker.specs.contracts.Searched.{the_type}
 use Rattle.marker.proofs.Passing.{none_joined, none_spent, more_budget}
 use Rattle.marker.proofs.searching.look.Goals as goal
 
--- What is not matched as spent is not that.
-unspent : (answer : Searched) → OneOf (0 ∷ 1 ∷ 3 ∷ []) (tag_of the_type answer) → (next looked : ℕ) → answer ≡ Spent next looked → ⊥
-unspent answer other next looked e = miss (0 ∷ 1 ∷ 3 ∷ []) 2 tt (subst (λ (a : Searched). OneOf (0 ∷ 1 ∷ 3 ∷ []) (tag_of the_type a)) e other)
-
 pub walk_on-requires : goal.walk_on-requires
 walk_on-requires c =
     let a = c.args in
@@ -29,5 +25,5 @@ pub returns : goal.returns
 returns c =
     let a = c.args in
     let near = c.walk-near in
-    more_budget a.tolerance a.stream.now a.start _ a.budget near.result near.ensures (unspent near.result c.in_default.in_default-own.keys2)
+    more_budget a.tolerance a.stream.now a.start _ a.budget near.result near.ensures c.in_default.not-Spent
     (omega (arith, c.whole_octets-end.ensures.0))

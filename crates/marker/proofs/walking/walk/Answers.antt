@@ -3,11 +3,7 @@
 use Rattle.std.proofs.Common.{◌-◌, sym, refl, ◌∙◌, ⊎_elim, arith, rules, leb-false, leb-true}
 use Rattle.marker.proofs.Sofar.{Stopped, begins, moved, onward, found, out_of_budget, none_there, ended, spent, absent}
 use Rattle.marker.proofs.walking.walk.Goals as goal
-use Rattle.marker.proofs.walking.walk.Goals.{Left-octets}
-
-shared-slice-read-bit-entered :
-    tie.Need-shared-slice-read-bit-entered invariant-loop decreases-loop invariant-octets decreases-octets
-shared-slice-read-bit-entered c = search rules
+use Rattle.marker.proofs.walking.walk.Goals.{Left-octets, else-octets-test, then-octets-test+then-loop-b-test+then-looked-budget}
 
 -- Both ways out at which nothing was found.
 abbrev StoppedAt : (c : Left-octets) → Type 0
@@ -17,9 +13,11 @@ StoppedAt c =
 
 stopped : (c : Left-octets) → StoppedAt c
 stopped c =
-    ⊎_elim (λ w. rw w.2 (ended (moved (omega arith) c.octets.invariant.4)))
-    (λ w. rw w.7 (out_of_budget _ _ w.2.taken w.1.inv.3 (omega arith) w.5.taken))
-    c.octets-test.branch
+    elim c.octets-test.branch [
+      | else-octets-test w ↦ rw w.looked-is (ended (moved (omega arith) c.octets.invariant.4))
+      | then-octets-test+then-loop-b-test+then-looked-budget w ↦
+          rw w.looked-is (out_of_budget _ _ w.loop-b-test.true w.loop-b.invariant.3 (omega arith) w.if-looked-budget.true)
+    ]
 
 pub returns-then-first-octets : goal.returns-then-first-octets
 returns-then-first-octets c = none_there (omega arith)

@@ -11,4 +11,4 @@ returns c =
     let count = c.wrong_bits in
     rw (← count.ensures)
     (near_wrapped count.result c.args.tolerance c.wrapping_sub_u32.result
-    (omega (arith, count.ensures, ones-le 32 _ (xor_lt 32 window 0x1ACFFC1D (omega arith) (omega arith)))) (omega arith) (omega arith) c.wrapping_sub_u32.ensures)
+    (omega (arith, count.ensures, ones-le 32 _ (xor_lt 32 window 0x1ACFFC1D (omega arith) (omega arith)))) (omega arith) (omega arith) c.wrapping_sub_u32.ensures.value)

@@ -3,12 +3,8 @@ use Rattle.codewords.specs.Words.{differing}
 use Rattle.convolution.specs.Coder.{symbols_at}
 use Rattle.viterbi.specs.Working.{branch}
 use Rattle.viterbi.proofs.Listing.{serving, costs_listed}
-use Rattle.viterbi.proofs.costs.cost_list.Statement.{statement}
-use Rattle.viterbi.proofs.costs.cost_list.Tie as tie
+use Rattle.viterbi.proofs.costs.cost_list.Goals as goal
 
-returns : tie.Need-returns
+pub returns : goal.returns
 unfolding serving branch symbols_at differing
 returns c = costs_listed _ tt
-
-pub cost-list-spec : {M : Type 1} → statement M
-cost-list-spec = tie.close (tie.spec returns)
