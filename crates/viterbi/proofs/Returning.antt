@@ -89,7 +89,7 @@ coded_accepted register received before n h l d f =
 -- ---- symbols that the coder wrote
 
 -- The coder's first call was accepted, so its state was legal.
-start_legal : {input written : List ℕ} {count : ℕ} {t : State} (s : State) → Calls 1 s input written count t → LegalCoder 1 s.register s.place s.holds
+start_legal : (s : State) {input written : List ℕ} {count : ℕ} {t : State} → Calls 1 s input written count t → LegalCoder 1 s.register s.place s.holds
 start_legal s (one octets before r after o z) =
     (legal 1 s (length octets) (length before) (subst (FirstOf (convolve_order 1 s.register s.place s.holds (length octets) (length before))) z o.number)).coder
 start_legal s (more octets before r after calls o z) = start_legal s calls

@@ -56,7 +56,6 @@ walk-reached-requires c =
 
 pub returns : goal.returns
 returns c =
-    let told = c in
-    let args = told.args in
+    let args = c.args in
     let back = c.rows_back-start in
-    path_found args.register args.symbols.now args.«data».now _ back.result.costs back.result.base _ _ (accepted told) back.ensures.0 c.turned.ensures.0 c.walk-reached.ensures.1
+    path_found args.register args.symbols.now args.«data».now _ back.result.costs back.result.base _ _ (accepted (goal.at.returns c).In_default) back.ensures.0 c.turned.ensures.0 c.walk-reached.ensures.1

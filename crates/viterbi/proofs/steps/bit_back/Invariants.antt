@@ -7,7 +7,7 @@ abbrev pub invariant-loop-k : goal.invariant-loop-k
 invariant-loop-k l =
     (l.k ≤ 32)
     × Filled (cost_at l.later l.pair) (2 * l.k) l.costs
-    × Filled (way_at (record { l.costs = l.later; l.ways = l.ahead }) l.pair l.weight) (2 * l.k) l.ways
+    × Filled (way_at (record { costs = l.later; ways = l.ahead }) l.pair l.weight) (2 * l.k) l.ways
 
 abbrev pub decreases-loop-k : goal.decreases-loop-k
 decreases-loop-k l = 32 - l.k

@@ -8,7 +8,7 @@ use Rattle.viterbi.proofs.walk.walk.Given as goal
 
 abbrev pub invariant-loop-i : goal.invariant-loop-i
 invariant-loop-i l =
-    (l.i ≤ l.n) × (l.n ≡ length l.symbols / 2) × (length «data» ≡ length «l.initial.data») × Halfway (bits_of l.symbols) l.register «data» l.i l.at
+    (l.i ≤ l.n) × (l.n ≡ length l.symbols / 2) × (length l.«data» ≡ length l.initial.«data») × Halfway (bits_of l.symbols) l.register l.«data» l.i l.at
 
 abbrev pub decreases-loop-i : goal.decreases-loop-i
 decreases-loop-i l = l.n - l.i
