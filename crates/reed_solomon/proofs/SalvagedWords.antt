@@ -7,7 +7,6 @@ use Prim.Native.Nat.{ℕ, zero, suc, ◌+◌, ◌-◌, ◌*◌, ◌≤◌, ◌<�
 use native.Mathlib.Nat.{zero-add}
 use native.Mathlib.Omega.{arith}
 use native.Mathlib.Decide.{ℕ_discrete}
-use borrow.Author.Tests.{not-true, not-false}
 use lib.Bits.{bit_xor}
 use lib.ListN.{length, get_or, set, replicate, length-set}
 use lib.Seq.{get_or-set_same, get_or-set_other}
@@ -45,8 +44,8 @@ module _ (e i q s : ℕ) (block : List ℕ) (w : ℕ) (F : Fitting e i q s block
   abbrev sent : List ℕ
   sent = sent_from i block w 0 (255 - q)
 
-  pub few_found : not found ≡ false → count ≤ 16
-  few_found y = omega (arith, few e i q s block w F found count errors O (not-false found y), F.allowance, (strength_bounds e F.strength).1)
+  pub few_found : found ≡ true → count ≤ 16
+  few_found y = omega (arith, few e i q s block w F found count errors O y, F.allowance, (strength_bounds e F.strength).1)
 
   module _ (before after : List ℕ) (P : Put i w (255 - q) block errors before after) where
     -- the word's symbols afterwards
@@ -57,7 +56,7 @@ module _ (e i q s : ℕ) (block : List ℕ) (w : ℕ) (F : Fitting e i q s block
         ∙ sym (⊕_is (get_or sent j 0) (get_or errors j 0))
         ∙ sym (repaired-at sent errors j (omega (arith, sent-length i block w 0 (255 - q))) (omega (arith, sent-length i block w 0 (255 - q), O.size))))
 
-    pub word_mended : not found ≡ false → WordPut e i q s block w before 1 count after
+    pub word_mended : found ≡ true → WordPut e i q s block w before 1 count after
     word_mended y =
         record {
           size = P.size;
@@ -65,13 +64,13 @@ module _ (e i q s : ℕ) (block : List ℕ) (w : ℕ) (F : Fitting e i q s block
           here = inl (record {
             marked = refl;
             good = subst (λ (word : List ℕ). Good e q s (with_fill q sent) (with_fill q word)) (sym put_sent)
-                (subst (λ (f : ℕ). Good e f s (with_fill f sent) (with_fill f (repaired sent errors))) (fill_is e i q s block w F) (O.when_found (not-false found y)).good);
-            counted = (O.when_found (not-false found y)).counted ∙ ap (λ (f : ℕ). differing (with_fill f sent) (with_fill f (repaired sent errors))) (fill_is e i q s block w F)
+                (subst (λ (f : ℕ). Good e f s (with_fill f sent) (with_fill f (repaired sent errors))) (fill_is e i q s block w F) (O.when_found y).good);
+            counted = (O.when_found y).counted ∙ ap (λ (f : ℕ). differing (with_fill f sent) (with_fill f (repaired sent errors))) (fill_is e i q s block w F)
                 ∙ ap (λ (word : List ℕ). differing (with_fill q sent) (with_fill q word)) (sym put_sent);
           });
         }
 
-    pub word_kept : not found ≡ true → WordPut e i q s block w before 0 0 after
+    pub word_kept : found ≡ false → WordPut e i q s block w before 0 0 after
     word_kept n =
         record {
           size = P.size;
@@ -79,8 +78,8 @@ module _ (e i q s : ℕ) (block : List ℕ) (w : ℕ) (F : Fitting e i q s block
           here = inr (record {
             unmarked = refl;
             uncounted = refl;
-            kept = put_sent ∙ ap (repaired sent) (O.when_not (not-true found n)).empty ∙ repaired-zeros sent 255;
-            lost = lost e i q s block w F found count errors O (not-true found n);
+            kept = put_sent ∙ ap (repaired sent) (O.when_not n).empty ∙ repaired-zeros sent 255;
+            lost = lost e i q s block w F found count errors O n;
           });
         }
 

@@ -1,7 +1,6 @@
 -- A word of a block and its repair: the symbols sent, the codeword found for them, and the places that they take in a frame.
 use mathlib.Core.Path.{◌≡◌, refl, sym, ap, ap₂, ◌∙◌, subst}
 use mathlib.Core.Bool.{Bool, true, false, not}
-use borrow.Author.Tests.{not-true, not-false}
 use mathlib.Core.List.{List, [], ◌∷◌, ◌++◌}
 use Prim.Native.Nat.{ℕ, zero, suc, ◌+◌, ◌-◌, ◌*◌, ◌≤◌, ◌<◌}
 use native.Mathlib.Nat.{mul-le-mul, mul-le-mul_right}
@@ -153,21 +152,21 @@ symbols-sent e i q s n block F few = omega (arith, F.received, mul-le-mul_right 
 
 module _ (e i q s : ℕ) (block : List ℕ) (w : ℕ) (F : Fitting e i q s block) (frame : List ℕ) (found : Bool) (count : ℕ) (errors : List ℕ)
     (O : WordOutcome e s (sent_from i block w 0 (255 - q)) found count errors) where
-  pub word_lost : not found ≡ true → WordRepaired e i q s block w frame false 0 frame
+  pub word_lost : found ≡ false → WordRepaired e i q s block w frame false 0 frame
   word_lost n =
       record {
         size = refl;
         others = λ k v h d. refl;
         when_found = λ y. let z : ◌≡◌ {A = ℕ} 0 1 = cc in absurd (omega arith);
-        when_not = λ y. lost e i q s block w F found count errors O (not-true found n);
+        when_not = λ y. lost e i q s block w F found count errors O n;
       }
 
-  pub word_found : not found ≡ false → (after : List ℕ) → Put i w (255 - q - 2 * e) block errors frame after → WordRepaired e i q s block w frame true count after
+  pub word_found : found ≡ true → (after : List ℕ) → Put i w (255 - q - 2 * e) block errors frame after → WordRepaired e i q s block w frame true count after
   word_found y after P =
       record {
         size = P.size;
         others = P.others;
-        when_found = λ t. has e i q s block w F found count errors O (not-false found y) frame after P;
+        when_found = λ t. has e i q s block w F found count errors O y frame after P;
         when_not = λ n. let z : ◌≡◌ {A = ℕ} 0 1 = cc in absurd (omega arith);
       }
 

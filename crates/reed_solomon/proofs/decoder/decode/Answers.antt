@@ -10,7 +10,7 @@ use Rattle.refusals.specs.Calls.{decode_parameters}
 use Rattle.encoding.proofs.CodedBlocks.{octets_known}
 use Rattle.reed_solomon.proofs.Deliveries.{fitting, coded_room, enter_legal, checks_of_words, refuses_parameter, refuses_word, lowest_lost, frame_within, all_good, delivers, delivers_coded}
 use Rattle.reed_solomon.proofs.decoder.decode.Goals as goal
-use Rattle.reed_solomon.proofs.decoder.decode.Goals.{In_default, In_default-1}
+use Rattle.reed_solomon.proofs.decoder.decode.Goals.{In_default}
 
 -- every check of a parameter has passed
 legal : (c : In_default) → let start = c in FirstOf (decode_parameters start.args.e start.args.depth start.args.fill start.args.s (length start.args.block.now) (length start.args.frame.now)) 0
@@ -40,7 +40,7 @@ pub has_checks-requires : goal.has_checks-requires
 has_checks-requires c = coded_room _ _ _ _ _ _ (legal (goal.at.has_checks-requires c).In_default)
 
 pub slice_bounds-copy_front-end : goal.slice_bounds-copy_front-end
-slice_bounds-copy_front-end c = sym (length-take-le _ _ (coded_room _ _ _ _ _ _ (legal (goal.at.slice_bounds-copy_front-end c).In_default-1)).2)
+slice_bounds-copy_front-end c = sym (length-take-le _ _ (coded_room _ _ _ _ _ _ (legal (goal.at.slice_bounds-copy_front-end c).In_default)).2)
 
 pub repair_words-repair-requires : goal.repair_words-repair-requires
 repair_words-repair-requires c =

@@ -2,7 +2,6 @@
 use mathlib.Core.Path.{◌≡◌, refl, ◌∙◌}
 use Prim.Native.Nat.{◌≤◌, ◌-◌}
 use native.Mathlib.Omega.{arith}
-use borrow.Author.Tests.{not-true, not-false}
 use Rattle.refusals.proofs.Legal.{strength_bounds}
 use Rattle.reed_solomon.proofs.WordRepairs.{sofar_starts, sofar_stops, sofar_turn, few_differ}
 use Rattle.reed_solomon.proofs.decoder.repair_words.Goals as goal
@@ -16,7 +15,7 @@ few c =
     let word = c.repair_word-word in
     omega (
       arith,
-      few_differ start.args.e start.args.depth start.args.fill start.args.s start.args.block.now at.w _ word.result.count (word.ensures.when_found (not-false _ c.if-not-found.false)),
+      few_differ start.args.e start.args.depth start.args.fill start.args.s start.args.block.now at.w _ word.result.count (word.ensures.when_found c.if-not-found.false),
       start.requires.0.allowance,
       (strength_bounds _ start.requires.0.strength).1,
     )
@@ -43,7 +42,7 @@ returns-then-not-found c =
     record {
       reached = at.invariant.0;
       sofar = sofar_stops start.args.e start.args.depth start.args.fill start.args.s start.args.block.now at.frame at.counts at.total at.w word.result.found word.result.count _ (omega arith) at.invariant.2 word.ensures;
-      stopped = λ h. word.ensures.when_not (not-true _ c.if-not-found.true);
+      stopped = λ h. word.ensures.when_not c.if-not-found.true;
       size = word.ensures.size ∙ at.invariant.1;
     }
 
@@ -63,7 +62,7 @@ loop-w-preserved c =
     let word = c.repair_word-word in (
       omega arith,
       word.ensures.size ∙ at.invariant.1,
-      sofar_turn start.args.e start.args.depth start.args.fill start.args.s start.args.block.now at.frame at.counts at.total at.w word.result.found word.result.count _ (omega arith) at.invariant.2 word.ensures start.requires.0.deep (not-false _ c.if-not-found.false),
+      sofar_turn start.args.e start.args.depth start.args.fill start.args.s start.args.block.now at.frame at.counts at.total at.w word.result.found word.result.count _ (omega arith) at.invariant.2 word.ensures start.requires.0.deep c.if-not-found.false,
       omega (arith, few c),
     )
 

@@ -1,11 +1,11 @@
 -- `run_alike`: if no octet of the run has differed, those before the k-th are the same.
 use mathlib.Core.Path.{◌≡◌, sym, ◌∙◌, subst}
-use mathlib.Core.Logic.{⊎_elim}
 use Prim.Native.Nat.{ℕ, ◌-◌, ◌+◌}
 use native.Mathlib.Omega.{arith}
 use Rattle.reed_solomon.specs.SalvageWorking.{Alike}
 use Rattle.reed_solomon.proofs.ChangeLists.{alike_turn}
 use Rattle.reed_solomon.proofs.listing.run_alike.Goals as goal
+use Rattle.reed_solomon.proofs.listing.run_alike.Goals.{then-block-from, else-block-from}
 
 pub returns-then-end-from-ne16 : goal.returns-then-end-from-ne16
 returns-then-end-from-ne16 c = λ y. let z : ◌≡◌ {A = ℕ} 0 1 = cc in absurd (omega arith)
@@ -19,8 +19,10 @@ loop-k-preserved c =
     let turn = c.loop-k in (
       omega arith,
       turn.invariant.1,
-      λ y. ⊎_elim (λ differ. let was = differ.1 in let z : ◌≡◌ {A = ℕ} 0 1 = cc in absurd (omega arith))
-          (λ same. alike_turn start.args.block.now start.args.mended.now start.args.from turn.k (turn.invariant.2 (sym same.1 ∙ y)) same.0.left) c.if-block-from.branch,
+      λ y. elim c.if-block-from.branch [
+        | then-block-from w ↦ let was = w.alike-is in let z : ◌≡◌ {A = ℕ} 0 1 = cc in absurd (omega arith)
+        | else-block-from w ↦ alike_turn start.args.block.now start.args.mended.now start.args.from turn.k (turn.invariant.2 (sym w.alike-is ∙ y)) w.if-block-from.false
+      ],
     )
 
 pub returns : goal.returns

@@ -2,7 +2,6 @@
 use mathlib.Core.Path.{◌≡◌}
 use Prim.Native.Nat.{ℕ, ◌-◌}
 use native.Mathlib.Omega.{arith}
-use borrow.Author.Tests.{not-false}
 use Rattle.reed_solomon.proofs.StandingChecks.{seen_turn, seen_ends}
 use Rattle.reed_solomon.proofs.recoding.has_checks.Goals as goal
 
@@ -18,7 +17,7 @@ returns-then-not-row_stands c = λ e. let clash : ◌≡◌ {A = ℕ} 0 1 = cc i
 pub loop-w-preserved : goal.loop-w-preserved
 loop-w-preserved c = (
   omega arith,
-  seen_turn c.args.rows _ _ c.args.block.now c.loop-w.w (c.row_stands.ensures (not-false _ c.if-not-row_stands.false)) c.loop-w.invariant.1,
+  seen_turn c.args.rows _ _ c.args.block.now c.loop-w.w (c.row_stands.ensures c.if-not-row_stands.false) c.loop-w.invariant.1,
 )
 
 pub returns : goal.returns

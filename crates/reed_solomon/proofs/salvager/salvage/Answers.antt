@@ -11,7 +11,7 @@ use Rattle.encoding.proofs.CodedBlocks.{octets_known}
 use Rattle.reed_solomon.proofs.Deliveries.{fitting, coded_room, enter_legal, checks_of_words}
 use Rattle.reed_solomon.proofs.Salvages.{salvage_decodes, salvage_refuses, block_fits, frame_fits, changes_room, salvages, salvages_coded}
 use Rattle.reed_solomon.proofs.salvager.salvage.Goals as goal
-use Rattle.reed_solomon.proofs.salvager.salvage.Goals.{In_default, In_default-1}
+use Rattle.reed_solomon.proofs.salvager.salvage.Goals.{In_default}
 
 -- every check of a parameter has passed
 legal : (c : In_default) → let start = c in
@@ -28,7 +28,7 @@ returns-in-Refused c = salvage_refuses _ _ _ _ _ _ _ _ _ c.in-Refused.is c.salva
 
 pub returns-then-has_checks : goal.returns-then-has_checks
 returns-then-has_checks c =
-    salvages_coded _ _ _ _ _ _ _ (legal (goal.at.returns-then-has_checks c).In_default-1) (search octets_known) _ c.front_rows-rows.ensures (c.has_checks.ensures c.if-has_checks.true) _ _ _ _ _
+    salvages_coded _ _ _ _ _ _ _ (legal (goal.at.returns-then-has_checks c).In_default) (search octets_known) _ c.front_rows-rows.ensures (c.has_checks.ensures c.if-has_checks.true) _ _ _ _ _
     c.as_received.ensures c.copy_front.ensures
 
 pub returns : goal.returns
@@ -43,10 +43,10 @@ pub has_checks-requires : goal.has_checks-requires
 has_checks-requires c = coded_room _ _ _ _ _ _ (decodes (goal.at.has_checks-requires c).In_default)
 
 pub slice_bounds-copy_front-end : goal.slice_bounds-copy_front-end
-slice_bounds-copy_front-end c = sym (length-take-le _ _ (coded_room _ _ _ _ _ _ (decodes (goal.at.slice_bounds-copy_front-end c).In_default-1)).2)
+slice_bounds-copy_front-end c = sym (length-take-le _ _ (coded_room _ _ _ _ _ _ (decodes (goal.at.slice_bounds-copy_front-end c).In_default)).2)
 
 pub as_received-requires : goal.as_received-requires
-as_received-requires c = (coded_room _ _ _ _ _ _ (decodes (goal.at.as_received-requires c).In_default-1)).1
+as_received-requires c = (coded_room _ _ _ _ _ _ (decodes (goal.at.as_received-requires c).In_default)).1
 
 pub salvage_words-salvaged-requires : goal.salvage_words-salvaged-requires
 salvage_words-salvaged-requires c =

@@ -6,7 +6,7 @@ use Rattle.reed_solomon.specs.DecoderWorking.{Put}
 use Rattle.encoding.proofs.Interleaving.{place-below}
 use Rattle.reed_solomon.proofs.Gathering.{put_starts, put_turn}
 use Rattle.reed_solomon.proofs.symbols.put_repaired.Goals as goal
-use Rattle.reed_solomon.proofs.symbols.put_repaired.Goals.{After-octet_of-at, After-shared_slice_known-in-loop-k-1}
+use Rattle.reed_solomon.proofs.symbols.put_repaired.Goals.{After-octet_of-at}
 
 -- the octet lies within the n symbols of each word
 within : (c : After-octet_of-at) → c.octet_of-at.result < c.args.n * c.args.depth
@@ -22,13 +22,13 @@ pub bounds-block-at : goal.bounds-block-at
 bounds-block-at c = omega (arith, within (goal.at.bounds-block-at c).After-octet_of-at)
 
 pub bounds-frame-at : goal.bounds-frame-at
-bounds-frame-at c = omega (arith, within (goal.at.bounds-frame-at c).After-shared_slice_known-in-loop-k-1)
+bounds-frame-at c = omega (arith, within (goal.at.bounds-frame-at c).After-octet_of-at)
 
 pub loop-k-preserved : goal.loop-k-preserved
 loop-k-preserved c =
     let P : Put _ _ _ _ _ _ _ =
     put_turn c.args.depth c.args.w c.args.block.now c.args.errors.now c.args.frame.now (omega arith) c.loop-k.k c.octet_of-at.result
-    _ c.loop-k.frame c.loop-k.invariant.2 c.octet_of-at.ensures (omega (arith, within (goal.at.loop-k-preserved c).After-shared_slice_known-in-loop-k-1)) refl in
+    _ c.loop-k.frame c.loop-k.invariant.2 c.octet_of-at.ensures (omega (arith, within (goal.at.loop-k-preserved c).After-octet_of-at)) refl in
     (omega arith, P.size, P)
 
 pub returns : goal.returns
