@@ -10,11 +10,11 @@ use Rattle.report_lines.proofs.texts.with_number.Goals as goal
 
 pub with_text-requires : goal.with_text-requires
 with_text-requires c =
-    let few : c.decimal-k.result ≤ 20 = at_most_twenty c.decimal-k.result c.args.number (search rules) c.decimal-k.ensures.1.0 in
+    let few : c.decimal-k.result ≤ 20 = at_most_twenty c.decimal-k.result c.args.number (search rules) c.decimal-k.ensures.len in
     (omega arith, c.requires.1)
 
 pub returns : goal.returns
 returns c =
     subst (λ (more : List ℕ). Added c.args.text more c.with_text.result)
-    (c.decimal-k.ensures.1.1 ∙ printed c.decimal-k.result c.args.number (search rules) c.decimal-k.ensures.1.0)
+    (c.decimal-k.ensures.digits ∙ printed c.decimal-k.result c.args.number (search rules) c.decimal-k.ensures.len)
     c.with_text.ensures
