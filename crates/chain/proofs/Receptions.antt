@@ -36,7 +36,7 @@ use Rattle.reed_solomon.proofs.Deliverable.{SomeLost, Order, delivered_is}
 use Rattle.chain.specs.declared.Stage.TheVariants.{Parameters, Marker, Word}
 use Rattle.chain.specs.declared.Received.{Received}
 use Rattle.chain.specs.declared.Received.TheVariants.{Delivered, Refused}
-use Rattle.chain.specs.Outcome.{complemented, opened_if, opened, block_in, said_inverted, received_number, word_stage, StageRefuses, AsDecode, ReceiveOutcome}
+use Rattle.chain.specs.Outcome.{complemented, opened_if, block_in, said_inverted, received_number, word_stage, StageRefuses, AsDecode, ReceiveOutcome}
 use Rattle.chain.proofs.Opening.{opened-length, form_in_front}
 use Rattle.chain.proofs.Transmissions.{block_most}
 

@@ -8,7 +8,7 @@ use Rattle.marker.specs.declared.Form.{Form}
 use Rattle.marker.specs.declared.Form.TheVariants.{True, Complement}
 use Rattle.marker.specs.declared.Searched.{Searched}
 use Rattle.marker.specs.declared.Searched.TheVariants.{Found, Absent, Spent, Refused}
-use Rattle.marker.specs.Place.{marker, marker_bit, wrong_among, wrong_bits, nearer, fewer, form_at, fewest_wrong, Place, NoneFits}
+use Rattle.marker.specs.Place.{marker_bit, wrong_among, wrong_bits, nearer, fewer, form_at, fewest_wrong, Place, NoneFits}
 use Rattle.marker.specs.Outcome.{searched_number, Looked, SearchOutcome}
 use Rattle.marker.proofs.Forms.{nearer-true, nearer_complement, complement_wrong}
 use Rattle.marker.proofs.Searches.{legal_given}

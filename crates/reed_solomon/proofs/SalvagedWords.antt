@@ -1,6 +1,6 @@
 -- A word of a block and its salvage: with its errors added it stands repaired, or as received, in its places; and so do the words one after the other.
 use mathlib.Core.Path.{◌≡◌, refl, sym, ap, ap₂, ◌∙◌, subst}
-use mathlib.Core.Bool.{Bool, true, false, not}
+use mathlib.Core.Bool.{Bool, true, false}
 use mathlib.Core.Logic.{inl, inr}
 use mathlib.Core.List.{List, [], ◌∷◌}
 use Prim.Native.Nat.{ℕ, zero, suc, ◌+◌, ◌-◌, ◌*◌, ◌≤◌, ◌<◌}
@@ -11,7 +11,6 @@ use lib.Bits.{bit_xor}
 use lib.ListN.{length, get_or, set, replicate, length-set}
 use lib.Seq.{get_or-set_same, get_or-set_other}
 use Rattle.refusals.proofs.Legal.{strength_bounds}
-use Rattle.field.specs.Field.{◌⊕◌}
 use Rattle.field.proofs.Sum.{⊕_is, ⊕-zero}
 use Rattle.codewords.specs.Words.{with_fill, Good, differing}
 use Rattle.words.specs.Outcome.{repaired, WordOutcome}

@@ -1,7 +1,7 @@
 -- `copy_front`: before octet `at` the octets before it are copied; where there are too many, none is.
 use mathlib.Core.Path.{refl, sym, ap, ◌∙◌}
 use mathlib.Core.List.{List}
-use Prim.Native.Nat.{ℕ, ◌-◌}
+use Prim.Native.Nat.{ℕ}
 use native.Mathlib.Omega.{arith}
 use lib.ListN.{get_or, set, length-set}
 use Rattle.octets.proofs.Laws.{copied_more, copied_all, copied_too_long}

@@ -1,6 +1,5 @@
 -- `invert`: before octet i the octets before it are inverted.
 use mathlib.Core.Path.{refl, ◌∙◌}
-use Prim.Native.Nat.{◌-◌}
 use native.Mathlib.Omega.{arith}
 use lib.ListN.{length-set}
 use Rattle.chain.proofs.Inversion.{turned_starts, turned_turn, turned_all}

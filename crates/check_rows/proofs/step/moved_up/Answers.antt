@@ -1,6 +1,5 @@
 -- `moved_up_lem` writes each octet but the first one place further up over a row of zeros.
 use mathlib.Core.Path.{refl}
-use Prim.Native.Nat.{◌-◌}
 use native.Mathlib.Omega.{arith}
 use Rattle.check_rows.proofs.Filling.{filled-start, filled_turn}
 use borrow.Author.Rules.{rules}

@@ -1,6 +1,5 @@
 -- `stepped_by_bits` moves the row up and adds what each bit of the feedback adds: what the bits before this one added, and what the others will add, is what the octet adds.
 use mathlib.Core.Path.{sym}
-use Prim.Native.Nat.{◌-◌}
 use native.Mathlib.Omega.{arith}
 use Rattle.field.proofs.Sum.{⊕_is}
 use Rattle.check_rows.proofs.Steps.{bits-start, bits_turn, bits-end}

@@ -1,6 +1,5 @@
 -- `with_row` adds the row of the feedback, octet by octet.
 use mathlib.Core.Path.{refl, ◌∙◌}
-use Prim.Native.Nat.{◌-◌}
 use native.Mathlib.Omega.{arith}
 use borrow.Author.Rules.{rules}
 use Rattle.check_rows.proofs.Filling.{filled-start, filled_turn}

@@ -1,6 +1,5 @@
 -- `bit_row` copies one octet after another.
 use mathlib.Core.Path.{refl}
-use Prim.Native.Nat.{◌-◌}
 use native.Mathlib.Omega.{arith}
 use Rattle.check_rows.proofs.Filling.{filled-start, filled_turn}
 use Rattle.check_rows.proofs.table.bit_row.Goals as goal

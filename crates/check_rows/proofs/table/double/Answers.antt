@@ -1,6 +1,5 @@
 -- `double` puts one new row after another; the old ones stay.
 use mathlib.Core.Path.{refl}
-use Prim.Native.Nat.{◌-◌}
 use native.Mathlib.Omega.{arith}
 use Rattle.check_rows.proofs.Tables.{Doubling, doubling_starts, doubling_turn, doubling_ends}
 use Rattle.check_rows.proofs.table.double.Goals as goal

@@ -1,6 +1,5 @@
 -- `put_sum` writes one octet of the sum after another; what it reads stands before them.
 use mathlib.Core.Path.{refl}
-use Prim.Native.Nat.{◌-◌}
 use native.Mathlib.Omega.{arith}
 use Rattle.check_rows.proofs.Tables.{Summing, summing_starts, summing_turn, summing_ends}
 use Rattle.check_rows.proofs.table.put_sum.Goals as goal

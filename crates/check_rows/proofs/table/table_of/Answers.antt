@@ -1,6 +1,6 @@
 -- `table_of` doubles the number of rows eight times: before bit b the first 2^b rows stand.
 use mathlib.Core.Path.{refl, sym, ◌∙◌}
-use Prim.Native.Nat.{ℕ, ◌-◌}
+use Prim.Native.Nat.{ℕ}
 use native.Mathlib.Omega.{arith}
 use lib.ListN.{get_or}
 use mir.Syntax.{w8}

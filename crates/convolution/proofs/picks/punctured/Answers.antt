@@ -1,11 +1,10 @@
 -- `punctured` meets its contract. The loop's invariant: the held symbols, with what is sent of the bits not yet in, are the same as at the start, and so is the place at the end.
 use mathlib.Core.List.{List, ◌++◌}
 use mathlib.Core.Path.{sym, ap, ◌∙◌, subst}
-use Prim.Native.Nat.{ℕ, ◌≤◌, ◌<◌, ◌+◌}
+use Prim.Native.Nat.{ℕ, ◌≤◌, ◌<◌}
 use native.Mathlib.Omega.{arith}
 use Rattle.convolution.specs.Coder.{low_bits}
 use Rattle.refusals.specs.Sizes.{period}
-use Rattle.convolution.specs.Working.{ahead}
 use Rattle.convolution.proofs.Puncturing.{begun_turn, begun_ahead, some_period, starts, starts_ahead, ends_place, ends_small, second_none, ahead_small}
 use Rattle.convolution.proofs.picks.punctured.Goals as goal
 

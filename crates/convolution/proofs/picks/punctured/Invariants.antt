@@ -3,7 +3,6 @@ use mathlib.Core.List.{◌++◌}
 use mathlib.Core.Path.{◌≡◌}
 use Prim.Native.Nat.{◌≤◌, ◌<◌, ◌+◌, ◌*◌}
 use Rattle.convolution.specs.Coder.{low_bits, place_after}
-use Rattle.refusals.specs.Sizes.{period}
 use Rattle.convolution.specs.Working.{picked_from, ahead}
 use Rattle.convolution.proofs.Puncturing.{with_second, ahead_after}
 use Rattle.convolution.proofs.picks.punctured.Given as goal

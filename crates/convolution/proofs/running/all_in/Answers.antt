@@ -1,6 +1,6 @@
 -- `all_in` meets its contract: at rate 1/2 by a loop, whose invariant is that the call has gone so far, by turns of an octet.
 use mathlib.Core.Path.{◌≡◌, sym, subst}
-use Prim.Native.Nat.{ℕ, ◌-◌, ◌/◌, ◌≤◌}
+use Prim.Native.Nat.{ℕ, ◌/◌, ◌≤◌}
 use native.Mathlib.Omega.{arith}
 use lib.ListN.{length}
 use Rattle.convolution.specs.Coder.{bits_of}

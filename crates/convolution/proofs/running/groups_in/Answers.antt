@@ -1,5 +1,4 @@
 -- `groups_in` meets its contract. The loop's invariant: the call has gone so far, by turns of a group or an octet.
-use Prim.Native.Nat.{◌-◌}
 use native.Mathlib.Omega.{arith}
 use Rattle.convolution.proofs.Turning.{going_first, going_underway, going_on, going_over}
 use Rattle.convolution.proofs.running.groups_in.Goals as goal

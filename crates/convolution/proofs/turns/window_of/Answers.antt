@@ -1,6 +1,6 @@
 -- `window_of` meets its contract. The loop's invariant: the register stands above the octets read.
 use mathlib.Core.Path.{◌≡◌, refl, sym, ◌∙◌, subst}
-use Prim.Native.Nat.{ℕ, ◌-◌, ◌<◌, ◌+◌, ◌*◌, ◌/◌, ◌^◌}
+use Prim.Native.Nat.{ℕ, ◌<◌, ◌+◌, ◌*◌, ◌/◌, ◌^◌}
 use native.Mathlib.Omega.{arith}
 use lib.ListN.{get_or, drop, take}
 use Rattle.convolution.specs.Coder.{low_bits, bits_of}

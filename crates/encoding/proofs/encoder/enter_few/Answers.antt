@@ -1,6 +1,5 @@
 -- `enter_few` lets each octet enter the row of its word: the rows are those that the octets so far have entered.
 use mathlib.Core.Path.{refl}
-use Prim.Native.Nat.{◌-◌}
 use native.Mathlib.Omega.{arith}
 use Rattle.encoding.proofs.RowTurns.{turn_start, turn_symbol, turn_word, turn_end}
 use borrow.Author.Rules.{rules}

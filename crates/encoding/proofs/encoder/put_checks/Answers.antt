@@ -1,6 +1,5 @@
 -- `put_checks` writes the rows interleaved: the next octet is that of row `word` at `check`.
 use mathlib.Core.Path.{refl, sym, ◌∙◌}
-use Prim.Native.Nat.{◌-◌}
 use native.Mathlib.Omega.{arith}
 use Rattle.check_rows.proofs.Filling.{Filled, filled-start, filled_turn, filled_before}
 use Rattle.encoding.proofs.Interleaving.{symbol_below, next_word, next_symbol, interleaved-at}

@@ -1,6 +1,6 @@
 -- `inverse` walks a, a^3, a^7 .. a^127 and squares the last.
 use mathlib.Core.Path.{◌≡◌, ◌∙◌, ap₂}
-use Prim.Native.Nat.{ℕ, ◌-◌}
+use Prim.Native.Nat.{ℕ}
 use native.Mathlib.Omega.{arith}
 use borrow.Author.Rules.{rules}
 use Rattle.field.specs.Field.{◌·◌}

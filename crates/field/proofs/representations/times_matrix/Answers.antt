@@ -1,5 +1,4 @@
 -- `times_matrix` adds a row for each bit that is set: what is summed, and what the rows that are left would add, is the product.
-use Prim.Native.Nat.{◌-◌}
 use native.Mathlib.Omega.{arith}
 use borrow.Author.Rules.{rules}
 use Rattle.field.proofs.Turns.{matrix_starts, matrix_turn, matrix_ends}

@@ -1,5 +1,5 @@
 -- `passed` goes on by four octets as long as no place that begins in them is near in their common bits.
-use Rattle.std.proofs.Common.{◌-◌, arith}
+use Rattle.std.proofs.Common.{arith}
 use Rattle.marker.proofs.Passing.{none_joined}
 use Rattle.marker.proofs.lanes.passed.Goals as goal
 

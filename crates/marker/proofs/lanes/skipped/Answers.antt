@@ -1,5 +1,5 @@
 -- `skipped` goes on behind the octets passed, and behind those in which bit by bit no place fits.
-use Rattle.std.proofs.Common.{◌-◌, arith}
+use Rattle.std.proofs.Common.{arith}
 use Rattle.marker.proofs.Passing.{none_joined}
 use Rattle.marker.proofs.lanes.skipped.Goals as goal
 

@@ -1,10 +1,5 @@
 -- `look` answers what the walk over the first places answers, unless that spends its budget; then none of them fits, nor any place of the octets passed over.
-use Rattle.std.proofs.Common.{◌≡◌, ℕ, [], ◌∷◌, subst, arith}
-use denote.Enum.Declared.{tag_of}
-use types.Run.{OneOf, miss}
-use Rattle.marker.specs.declared.Searched.{Searched}
-use Rattle.marker.specs.declared.Searched.TheVariants.{Spent}
-use Rattle.marker.specs.contracts.Searched.{the_type}
+use Rattle.std.proofs.Common.{arith}
 use Rattle.marker.proofs.Passing.{none_joined, none_spent, more_budget}
 use Rattle.marker.proofs.searching.look.Goals as goal
 

@@ -1,5 +1,5 @@
 -- `fill_row` adds the low halves to one high half, one after another.
-use Rattle.std.proofs.Common.{◌-◌, sym, refl, ◌∙◌, arith}
+use Rattle.std.proofs.Common.{sym, refl, ◌∙◌, arith}
 use Rattle.marker.proofs.OctetTable.{octet_most, row-sum, filled_upto, filled_turn}
 use Rattle.marker.proofs.table.fill_row.Goals as goal
 

@@ -1,5 +1,5 @@
 -- `octet_table` fills one row after another.
-use Rattle.std.proofs.Common.{◌-◌, sym, refl, arith}
+use Rattle.std.proofs.Common.{sym, refl, arith}
 use Rattle.marker.proofs.OctetTable.{filled_none, filled_upto}
 use Rattle.marker.proofs.table.octet_table.Goals as goal
 

@@ -1,6 +1,6 @@
 -- `walk` answers what it saw. Both loops keep `Sofar` before the next bit, i * 8 + b; the measures are the bits and the octets left.
 -- Where the loops are left and nothing was found, by the budget or at the end, `Stopped` holds, from which either answer follows.
-use Rattle.std.proofs.Common.{◌-◌, sym, refl, ◌∙◌, ⊎_elim, arith, rules, leb-false, leb-true}
+use Rattle.std.proofs.Common.{sym, refl, ◌∙◌, arith, leb-false, leb-true}
 use Rattle.marker.proofs.Sofar.{Stopped, begins, moved, onward, found, out_of_budget, none_there, ended, spent, absent}
 use Rattle.marker.proofs.walking.walk.Goals as goal
 use Rattle.marker.proofs.walking.walk.Goals.{Left-octets, else-octets-test, then-octets-test+then-loop-b-test+then-looked-budget}

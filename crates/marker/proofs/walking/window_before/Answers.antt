@@ -1,5 +1,5 @@
 -- `window_before` holds what has entered: octets, and then the first bits of the next one.
-use Rattle.std.proofs.Common.{◌+◌, ◌-◌, ◌/◌, ◌%◌, arith}
+use Rattle.std.proofs.Common.{◌+◌, ◌/◌, ◌%◌, arith}
 use Rattle.marker.proofs.Sofar.{none_entered, front-entered, moved_on}
 use Rattle.marker.proofs.walking.window_before.Goals as goal
 

@@ -1,6 +1,5 @@
 -- `add_sequence`: before octet i the register holds octet i of the sequence, and the octets before i have theirs added.
 use mathlib.Core.Path.{refl, sym, ap, ◌∙◌}
-use Prim.Native.Nat.{◌-◌}
 use native.Mathlib.Omega.{arith}
 use lib.ListN.{length-set}
 use Rattle.randomiser.specs.Sequence.{eight_on}

@@ -1,6 +1,6 @@
 -- `repair_words`: before word w the words before it have their codewords, and as many are counted.
 use mathlib.Core.Path.{◌≡◌, refl, ◌∙◌}
-use Prim.Native.Nat.{◌≤◌, ◌-◌}
+use Prim.Native.Nat.{◌≤◌}
 use native.Mathlib.Omega.{arith}
 use Rattle.refusals.proofs.Legal.{strength_bounds}
 use Rattle.reed_solomon.proofs.WordRepairs.{sofar_starts, sofar_stops, sofar_turn, few_differ}

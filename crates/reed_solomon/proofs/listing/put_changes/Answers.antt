@@ -1,6 +1,6 @@
 -- `put_changes`: before octet `at` the changes of the octets before it are listed.
 use mathlib.Core.Path.{◌≡◌, ◌∙◌, subst}
-use Prim.Native.Nat.{ℕ, ◌-◌}
+use Prim.Native.Nat.{ℕ}
 use native.Mathlib.Omega.{arith}
 use lib.ListN.{length}
 use Rattle.reed_solomon.specs.SalvageWorking.{Listed}

@@ -1,6 +1,6 @@
 -- `put_run`: a run in which nothing changed has no entries; in another, before octet `at` the changes of the octets before it are listed.
 use mathlib.Core.Path.{◌≡◌, refl, ◌∙◌, subst}
-use Prim.Native.Nat.{ℕ, ◌-◌}
+use Prim.Native.Nat.{ℕ}
 use native.Mathlib.Omega.{arith}
 use lib.ListN.{get_or}
 use Rattle.reed_solomon.specs.SalvageWorking.{Listed}

@@ -1,6 +1,6 @@
 -- `run_alike`: if no octet of the run has differed, those before the k-th are the same.
 use mathlib.Core.Path.{◌≡◌, sym, ◌∙◌, subst}
-use Prim.Native.Nat.{ℕ, ◌-◌, ◌+◌}
+use Prim.Native.Nat.{ℕ, ◌+◌}
 use native.Mathlib.Omega.{arith}
 use Rattle.reed_solomon.specs.SalvageWorking.{Alike}
 use Rattle.reed_solomon.proofs.ChangeLists.{alike_turn}

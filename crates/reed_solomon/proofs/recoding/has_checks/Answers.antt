@@ -1,6 +1,6 @@
 -- `has_checks` looks at one word after another, and leaves at the first whose row does not stand.
 use mathlib.Core.Path.{◌≡◌}
-use Prim.Native.Nat.{ℕ, ◌-◌}
+use Prim.Native.Nat.{ℕ}
 use native.Mathlib.Omega.{arith}
 use Rattle.reed_solomon.proofs.StandingChecks.{seen_turn, seen_ends}
 use Rattle.reed_solomon.proofs.recoding.has_checks.Goals as goal

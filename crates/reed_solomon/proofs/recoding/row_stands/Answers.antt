@@ -1,6 +1,6 @@
 -- `row_stands` goes from one check of the word to the next, and leaves at the first that differs.
 use mathlib.Core.Path.{◌≡◌}
-use Prim.Native.Nat.{ℕ, ◌-◌}
+use Prim.Native.Nat.{ℕ}
 use native.Mathlib.Omega.{arith}
 use Rattle.encoding.proofs.Interleaving.{symbol_below}
 use Rattle.reed_solomon.proofs.StandingChecks.{next_check, row_seen_turn, row_seen_ends}

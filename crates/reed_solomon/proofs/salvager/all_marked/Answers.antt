@@ -1,6 +1,5 @@
 -- `all_marked`: before word w the words before it are marked.
 use mathlib.Core.Path.{◌≡◌}
-use Prim.Native.Nat.{◌-◌}
 use native.Mathlib.Omega.{arith}
 use Rattle.reed_solomon.proofs.SalvagedWords.{marks_start, marks_turn}
 use Rattle.reed_solomon.proofs.salvager.all_marked.Goals as goal

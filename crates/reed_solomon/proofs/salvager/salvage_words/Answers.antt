@@ -1,6 +1,5 @@
 -- `salvage_words`: before word w the words before it stand salvaged.
 use mathlib.Core.Path.{◌≡◌, refl, ◌∙◌}
-use Prim.Native.Nat.{◌-◌}
 use native.Mathlib.Omega.{arith}
 use Rattle.reed_solomon.proofs.SalvagedWords.{words_start, words_turn}
 use Rattle.reed_solomon.proofs.salvager.salvage_words.Goals as goal

@@ -1,6 +1,5 @@
 -- `difference`: before symbol k those before it stand with the row's octets added, and zeros elsewhere.
 use mathlib.Core.Path.{◌≡◌}
-use Prim.Native.Nat.{◌-◌}
 use native.Mathlib.Omega.{arith}
 use Rattle.encoding.proofs.Interleaving.{place-below}
 use Rattle.reed_solomon.proofs.Gathering.{difference_starts, difference_turn}

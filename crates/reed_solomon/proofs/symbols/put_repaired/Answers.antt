@@ -1,6 +1,6 @@
 -- `put_repaired`: before symbol k the first k symbols stand in their places.
 use mathlib.Core.Path.{◌≡◌, refl}
-use Prim.Native.Nat.{◌-◌, ◌*◌, ◌<◌}
+use Prim.Native.Nat.{◌*◌, ◌<◌}
 use native.Mathlib.Omega.{arith}
 use Rattle.reed_solomon.specs.DecoderWorking.{Put}
 use Rattle.encoding.proofs.Interleaving.{place-below}

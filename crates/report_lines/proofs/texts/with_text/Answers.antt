@@ -1,6 +1,5 @@
 -- `with_text`: before octet i the first i octets of more stand at the end of the text.
 use mathlib.Core.Path.{◌≡◌, refl}
-use Prim.Native.Nat.{◌-◌}
 use native.Mathlib.Omega.{arith}
 use lib.ListN.{length, length-set}
 use lib.Seq.{paste-zero}

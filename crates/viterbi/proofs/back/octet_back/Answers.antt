@@ -1,12 +1,10 @@
 -- `octet_back` takes eight steps, one after the other, each from what the one before it gathered.
-use Prim.Native.Nat.{ℕ, ◌+◌, ◌-◌, ◌*◌}
+use Prim.Native.Nat.{◌+◌, ◌-◌, ◌*◌}
 use native.Mathlib.Omega.{arith}
 use mathlib.Core.Path.{refl}
-use lib.ListN.{replicate}
 use Rattle.convolution.specs.Coder.{bits_of}
-use Rattle.viterbi.specs.declared.Column.{Column}
 use Rattle.viterbi.proofs.Ways.{stands_at}
-use Rattle.viterbi.proofs.Gathering.{Gathered, gathered_none, gathered_more, ready}
+use Rattle.viterbi.proofs.Gathering.{gathered_none, gathered_more, ready}
 use Rattle.viterbi.proofs.back.octet_back.Goals as goal
 
 pub overflow_add-t : goal.overflow_add-t

@@ -1,6 +1,6 @@
 -- `rows_back` goes one octet back in each turn, keeps its ways as a row, and moves to the base what all costs have.
 use mathlib.Core.Path.{◌≡◌}
-use Prim.Native.Nat.{◌-◌, ◌*◌, ◌/◌, ◌≤◌}
+use Prim.Native.Nat.{◌*◌, ◌/◌, ◌≤◌}
 use lib.ListN.{length}
 use Rattle.convolution.specs.Coder.{bits_of}
 use Rattle.viterbi.specs.Working.{Below, ToGo, Rows}

@@ -1,6 +1,6 @@
 -- `bit_back` sets two registers in each turn, by one listed cost.
 use mathlib.Core.Path.{refl, ◌∙◌}
-use Prim.Native.Nat.{◌-◌, ◌+◌}
+use Prim.Native.Nat.{◌+◌}
 use native.Mathlib.Omega.{arith}
 use Rattle.viterbi.proofs.Stepping.{filled_none, filled-two, even_cost, odd_cost, even_way, odd_way, all_earlier}
 use Rattle.viterbi.proofs.steps.bit_back.Goals as goal

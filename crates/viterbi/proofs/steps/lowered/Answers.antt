@@ -1,6 +1,5 @@
 -- `lowered` goes over the places one after the other.
 use mathlib.Core.Path.{refl}
-use Prim.Native.Nat.{◌-◌}
 use native.Mathlib.Omega.{arith}
 use Rattle.viterbi.proofs.Stepping.{filled_none, filled_more}
 use Rattle.viterbi.proofs.steps.lowered.Goals as goal

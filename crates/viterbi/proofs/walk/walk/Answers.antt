@@ -1,6 +1,5 @@
 -- `walk` goes one octet further in each turn.
 use mathlib.Core.Path.{refl}
-use Prim.Native.Nat.{◌-◌}
 use native.Mathlib.Omega.{arith}
 use mathlib.Core.List.{[]}
 use lib.ListN.{get_or, length-set}

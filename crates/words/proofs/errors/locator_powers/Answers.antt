@@ -1,6 +1,5 @@
 -- `locator_powers` looks up one locator after another.
 use mathlib.Core.Path.{◌≡◌, refl}
-use Prim.Native.Nat.{◌-◌}
 use native.Mathlib.Omega.{arith}
 use Rattle.words.proofs.Arrays.{filled_starts, filled_turn}
 use Rattle.words.proofs.ErrorsPlaced.{power_listed}

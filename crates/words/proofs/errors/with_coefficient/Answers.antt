@@ -1,6 +1,5 @@
 -- `with_coefficient` fills in three sums in each turn.
 use mathlib.Core.Path.{◌≡◌}
-use Prim.Native.Nat.{◌-◌}
 use native.Mathlib.Omega.{arith}
 use Rattle.words.proofs.ErrorsPlaced.{taken_starts, taken_turn}
 use Rattle.words.proofs.errors.with_coefficient.Goals as goal

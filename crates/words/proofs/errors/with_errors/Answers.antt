@@ -1,6 +1,5 @@
 -- `with_errors` writes the error of one root after another at its place.
 use mathlib.Core.Path.{◌≡◌}
-use Prim.Native.Nat.{◌-◌}
 use native.Mathlib.Nat.{add-zero}
 use native.Mathlib.Omega.{arith}
 use Rattle.words.proofs.ErrorsPlaced.{power_below, placed_turn}

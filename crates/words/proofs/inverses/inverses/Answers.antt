@@ -1,6 +1,5 @@
 -- `inverses` looks up one inverse after another.
 use mathlib.Core.Path.{◌≡◌, refl}
-use Prim.Native.Nat.{◌-◌}
 use native.Mathlib.Omega.{arith}
 use Rattle.words.proofs.Arrays.{filled_starts, filled_turn}
 use Rattle.words.specs.Working.{inverse_at}

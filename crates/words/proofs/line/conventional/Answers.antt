@@ -1,6 +1,5 @@
 -- `conventional` converts one symbol after another.
 use mathlib.Core.Path.{◌≡◌, refl}
-use Prim.Native.Nat.{◌-◌}
 use native.Mathlib.Omega.{arith}
 use lib.ListN.{length}
 use Rattle.words.proofs.Arrays.{filled_starts}

@@ -1,6 +1,5 @@
 -- `on_line` converts one error after another.
 use mathlib.Core.Path.{◌≡◌, refl}
-use Prim.Native.Nat.{◌-◌}
 use native.Mathlib.Omega.{arith}
 use Rattle.words.proofs.Arrays.{filled_starts}
 use Rattle.words.proofs.Conversions.{line_turn, line_ends}

@@ -1,6 +1,5 @@
 -- `by_root` fills in one coefficient of the product after another.
 use mathlib.Core.Path.{refl, ◌≡◌}
-use Prim.Native.Nat.{◌-◌}
 use native.Mathlib.Omega.{arith}
 use Rattle.words.proofs.Arrays.{filled_starts}
 use Rattle.words.proofs.Coefficients.{by_root_turn}

@@ -1,6 +1,5 @@
 -- `moved_up_lem` copies one coefficient after another, each k places up; below them zeros are left.
 use mathlib.Core.Path.{refl}
-use Prim.Native.Nat.{◌-◌}
 use native.Mathlib.Omega.{arith}
 use Rattle.words.proofs.Arrays.{filled-less}
 use Rattle.words.proofs.Coefficients.{moved_starts, moved_turn}

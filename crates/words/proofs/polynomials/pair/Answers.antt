@@ -1,5 +1,4 @@
 -- `pair` adds a product for each place: what is summed, and what the places that are left would add, is the whole sum.
-use Prim.Native.Nat.{◌-◌}
 use native.Mathlib.Omega.{arith}
 use Rattle.words.proofs.Coefficients.{pair_starts, pair_turn, pair_ends}
 use Rattle.words.proofs.polynomials.pair.Goals as goal

@@ -1,5 +1,4 @@
 -- `behind_zeros` copies one octet after another; the zeros before them are there from the start.
-use Prim.Native.Nat.{◌-◌}
 use native.Mathlib.Omega.{arith}
 use Rattle.words.proofs.Arrays.{but_starts, but_turn, but_ends}
 use Rattle.words.proofs.RegisterTurns.{zeros_before, row_behind}

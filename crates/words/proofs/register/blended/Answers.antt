@@ -1,6 +1,6 @@
 -- `blended` fills in one coefficient of the blend after another.
 use mathlib.Core.Path.{◌≡◌, refl, ap₂}
-use Prim.Native.Nat.{ℕ, ◌-◌}
+use Prim.Native.Nat.{ℕ}
 use native.Mathlib.Omega.{arith}
 use Rattle.field.specs.Field.{◌⊕◌}
 use Rattle.words.proofs.Arrays.{filled_starts, sum_turn}

@@ -1,6 +1,5 @@
 -- `padded` copies one term after another; the zeros behind them are there from the start.
 use mathlib.Core.Path.{refl}
-use Prim.Native.Nat.{◌-◌}
 use native.Mathlib.Omega.{arith}
 use lib.ListN.{get_or-eq_default}
 use Rattle.words.proofs.Arrays.{but_starts, but_turn, but_ends}

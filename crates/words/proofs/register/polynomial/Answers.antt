@@ -1,6 +1,5 @@
 -- `polynomial` copies one coefficient after another; above them zeros are left.
 use mathlib.Core.Path.{refl, sym}
-use Prim.Native.Nat.{◌-◌}
 use native.Mathlib.Omega.{arith}
 use Rattle.words.proofs.Arrays.{but_starts, but_turn, but_ends}
 use Rattle.words.proofs.FromTop.{from_top_low, from_top_past}

@@ -1,5 +1,4 @@
 -- `put_behind` copies one octet of the row after another, and leaves what stands before them.
-use Prim.Native.Nat.{◌-◌}
 use native.Mathlib.Omega.{arith}
 use Rattle.words.proofs.RegisterTurns.{put_starts, put_turn, put_ends}
 use Rattle.words.proofs.register.put_behind.Goals as goal

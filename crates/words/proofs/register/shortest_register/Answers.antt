@@ -1,6 +1,5 @@
 -- `shortest_register` takes one term after another: by the gap there the register is kept, changed at the same length, or made longer.
 use mathlib.Core.Path.{◌≡◌, refl}
-use Prim.Native.Nat.{◌-◌}
 use native.Mathlib.Omega.{arith}
 use lib.ListN.{length}
 use Rattle.words.proofs.RegisterTurns.{turned-start, holds_len, turned_as, turn_keep, turn_same, turn_grow}

@@ -1,6 +1,5 @@
 -- `find_roots` passes one place after another; a root is added to those found.
 use mathlib.Core.Path.{◌≡◌, sym, ◌∙◌}
-use Prim.Native.Nat.{◌-◌}
 use native.Mathlib.Omega.{arith}
 use Rattle.words.proofs.RootsFound.{value_is, roots_start, roots_none, roots_more}
 use Rattle.words.proofs.roots.find_roots.Goals as goal

@@ -1,6 +1,5 @@
 -- `joined` fills in three sums in each turn.
 use mathlib.Core.Path.{◌≡◌}
-use Prim.Native.Nat.{◌-◌}
 use native.Mathlib.Omega.{arith}
 use Rattle.words.proofs.Thirds.{joined_starts, joined_turn}
 use Rattle.words.proofs.roots.joined.Goals as goal

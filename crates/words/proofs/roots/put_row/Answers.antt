@@ -1,6 +1,5 @@
 -- `put_row` writes one place after another.
 use mathlib.Core.Path.{◌≡◌}
-use Prim.Native.Nat.{◌-◌}
 use native.Mathlib.Omega.{arith}
 use Rattle.words.proofs.Thirds.{put_starts, put_turn, put_ends}
 use Rattle.words.proofs.roots.put_row.Goals as goal

@@ -1,6 +1,6 @@
 -- `values_everywhere` puts three rows of values in place in each turn, behind those of the turns before.
 use mathlib.Core.Path.{◌≡◌, refl}
-use Prim.Native.Nat.{◌-◌, ◌*◌}
+use Prim.Native.Nat.{◌*◌}
 use native.Mathlib.Omega.{arith}
 use Rattle.words.proofs.Thirds.{rows_start, rows_turn, rows_end}
 use Rattle.words.proofs.roots.values_everywhere.Goals as goal

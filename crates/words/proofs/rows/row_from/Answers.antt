@@ -1,6 +1,5 @@
 -- `row_from` copies one place after another.
 use mathlib.Core.Path.{refl, ◌≡◌}
-use Prim.Native.Nat.{◌-◌}
 use native.Mathlib.Omega.{arith}
 use Rattle.words.proofs.Arrays.{filled_starts}
 use Rattle.words.proofs.RowTurns.{later_turn}

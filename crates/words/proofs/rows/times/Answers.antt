@@ -1,6 +1,5 @@
 -- `times` fills in one product after another.
 use mathlib.Core.Path.{refl, ◌≡◌}
-use Prim.Native.Nat.{◌-◌}
 use native.Mathlib.Omega.{arith}
 use Rattle.words.proofs.Arrays.{filled_starts}
 use Rattle.words.proofs.RowTurns.{times_turn}

@@ -1,6 +1,5 @@
 -- `with_symbol` makes one step of Horner's rule at one point after another.
 use mathlib.Core.Path.{refl, ◌≡◌, ◌∙◌}
-use Prim.Native.Nat.{◌-◌}
 use native.Mathlib.Omega.{arith}
 use Rattle.field.proofs.Product.{·_comm}
 use Rattle.words.proofs.Arrays.{filled_starts}

@@ -1,6 +1,6 @@
 -- `all_zero` leaves at the first element that is not zero; all it passed are zero.
 use mathlib.Core.Path.{◌≡◌}
-use Prim.Native.Nat.{ℕ, ◌-◌}
+use Prim.Native.Nat.{ℕ}
 use native.Mathlib.Omega.{arith}
 use borrow.Author.Count.{below_more}
 use Rattle.words.proofs.syndromes.all_zero.Goals as goal

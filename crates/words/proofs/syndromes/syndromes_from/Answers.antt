@@ -1,6 +1,5 @@
 -- `syndromes_from` takes one symbol after another at all points; what is left to do gives the values of the whole word.
 use mathlib.Core.Path.{refl, sym}
-use Prim.Native.Nat.{◌-◌}
 use native.Mathlib.Omega.{arith}
 use Rattle.codewords.proofs.WordValues.{octets_of_lem}
 use Rattle.words.proofs.RowTurns.{later_is}

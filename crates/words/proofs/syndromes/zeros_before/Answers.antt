@@ -1,5 +1,4 @@
 -- `zeros_before` leaves at the first symbol that is not zero; all it passed are zero.
-use Prim.Native.Nat.{◌-◌}
 use native.Mathlib.Omega.{arith}
 use lib.ListN.{length}
 use borrow.Author.Count.{below_more}
