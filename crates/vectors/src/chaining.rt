@@ -2,10 +2,12 @@
 ghost use Rattle.std.specs.Prelude.{◌≤◌};
 
 use crate::coding::{change, changes};
+use crate::print::Page;
 use crate::{calls, print};
 
 // A frame of so many octets, with 170s before.
 fn received(
+    page: &mut Page,
     e: u32,
     depth: u32,
     fill: u32,
@@ -18,6 +20,7 @@ fn received(
     let mut delivered = [170u8; 2048];
     if frame <= 2048 {
         calls::receive(
+            page,
             e,
             depth,
             fill,
@@ -40,6 +43,7 @@ fn invert(s: &mut [u8], start: usize) {
 
 // Received after all bits are inverted, from an octet on.
 fn inverted_from(
+    page: &mut Page,
     e: u32,
     depth: u32,
     fill: u32,
@@ -49,11 +53,12 @@ fn inverted_from(
     marked: &mut [u8],
 ) {
     invert(&mut *marked, start);
-    received(e, depth, fill, e, 3, opened, marked, frame);
+    received(page, e, depth, fill, e, 3, opened, marked, frame);
 }
 
 // Received with so many wrong octets, E in each word, and with one more.
 fn worn_out(
+    page: &mut Page,
     e: u32,
     depth: u32,
     fill: u32,
@@ -66,23 +71,33 @@ fn worn_out(
 {
     let next = 4 + worn;
     changes(&mut *marked, 4, 1, worn, 0x5A);
-    received(e, depth, fill, e, 3, opened, marked, frame);
+    received(page, e, depth, fill, e, 3, opened, marked, frame);
     change(&mut *marked, next, 0x5A);
-    received(e, depth, fill, e, 3, opened, marked, frame);
+    received(page, e, depth, fill, e, 3, opened, marked, frame);
 }
 
 // What a demodulator may make of a marked block: the block alone inverted, the marker alone, both; and both with wrong octets.
-fn turned(e: u32, depth: u32, fill: u32, opened: bool, frame: usize, worn: usize, marked: &mut [u8])
+fn turned(
+    page: &mut Page,
+    e: u32,
+    depth: u32,
+    fill: u32,
+    opened: bool,
+    frame: usize,
+    worn: usize,
+    marked: &mut [u8],
+)
     requires { worn ≤ 128 }
 {
-    inverted_from(e, depth, fill, opened, frame, 4, &mut *marked);
-    inverted_from(e, depth, fill, opened, frame, 0, &mut *marked);
-    inverted_from(e, depth, fill, opened, frame, 4, &mut *marked);
-    worn_out(e, depth, fill, opened, frame, worn, marked);
+    inverted_from(page, e, depth, fill, opened, frame, 4, &mut *marked);
+    inverted_from(page, e, depth, fill, opened, frame, 0, &mut *marked);
+    inverted_from(page, e, depth, fill, opened, frame, 4, &mut *marked);
+    worn_out(page, e, depth, fill, opened, frame, worn, marked);
 }
 
 // Transmit with one flag, and receive of what then stands there with the other or the same; then turned, if octets are to be wrong.
 fn both(
+    page: &mut Page,
     e: u32,
     depth: u32,
     fill: u32,
@@ -95,15 +110,16 @@ fn both(
     requires { worn ≤ 128 }
 {
     let n = frame.len();
-    calls::transmit(e, depth, fill, sent, frame, &mut *marked);
-    received(e, depth, fill, e, 3, opened, marked, n);
+    calls::transmit(page, e, depth, fill, sent, frame, &mut *marked);
+    received(page, e, depth, fill, e, 3, opened, marked, n);
     if worn > 0 {
-        turned(e, depth, fill, opened, n, worn, marked);
+        turned(page, e, depth, fill, opened, n, worn, marked);
     }
 }
 
 // A drawn frame and a marked block that holds 170 before; after a refusal the 170s are received.
 fn there_and_back(
+    page: &mut Page,
     e: u32,
     depth: u32,
     fill: u32,
@@ -121,6 +137,7 @@ fn there_and_back(
     if frame <= 2048 {
         if marked <= 2304 {
             both(
+                page,
                 e,
                 depth,
                 fill,
@@ -134,140 +151,140 @@ fn there_and_back(
     }
 }
 
-fn flags(e: u32, depth: u32, fill: u32, worn: usize, frame: usize, marked: usize)
+fn flags(page: &mut Page, e: u32, depth: u32, fill: u32, worn: usize, frame: usize, marked: usize)
     requires { worn ≤ 128 }
 {
-    there_and_back(e, depth, fill, false, false, worn, frame, marked);
-    there_and_back(e, depth, fill, true, true, worn, frame, marked);
-    there_and_back(e, depth, fill, true, false, worn, frame, marked);
+    there_and_back(page, e, depth, fill, false, false, worn, frame, marked);
+    there_and_back(page, e, depth, fill, true, true, worn, frame, marked);
+    there_and_back(page, e, depth, fill, true, false, worn, frame, marked);
 }
 
 // The shortest and the longest marked block, and some between them, at every depth. E I octets are to be wrong.
-fn codes() {
-    flags(16, 1, 222, 16, 1, 37);
-    flags(8, 2, 238, 16, 2, 38);
-    flags(8, 3, 100, 24, 417, 469);
-    flags(16, 4, 1, 64, 888, 1020);
-    flags(16, 5, 0, 80, 1115, 1279);
-    flags(8, 8, 0, 64, 1912, 2044);
-    there_and_back(8, 8, 0, false, true, 64, 1912, 2044);
+fn codes(page: &mut Page) {
+    flags(page, 16, 1, 222, 16, 1, 37);
+    flags(page, 8, 2, 238, 16, 2, 38);
+    flags(page, 8, 3, 100, 24, 417, 469);
+    flags(page, 16, 4, 1, 64, 888, 1020);
+    flags(page, 16, 5, 0, 80, 1115, 1279);
+    flags(page, 8, 8, 0, 64, 1912, 2044);
+    there_and_back(page, 8, 8, 0, false, true, 64, 1912, 2044);
 }
 
-fn refused(e: u32, depth: u32, fill: u32, frame: usize, marked: usize) {
-    there_and_back(e, depth, fill, true, true, 0, frame, marked);
+fn refused(page: &mut Page, e: u32, depth: u32, fill: u32, frame: usize, marked: usize) {
+    there_and_back(page, e, depth, fill, true, true, 0, frame, marked);
 }
 
-fn parameters() {
-    refused(7, 1, 0, 241, 259);
-    refused(9, 6, 0, 1422, 1534);
-    refused(17, 1, 0, 221, 259);
-    refused(16, 0, 0, 0, 4);
-    refused(16, 6, 223, 0, 196);
-    refused(16, 9, 0, 2007, 2299);
-    refused(16, 1, 223, 0, 36);
-    refused(8, 1, 239, 1, 20);
+fn parameters(page: &mut Page) {
+    refused(page, 7, 1, 0, 241, 259);
+    refused(page, 9, 6, 0, 1422, 1534);
+    refused(page, 17, 1, 0, 221, 259);
+    refused(page, 16, 0, 0, 0, 4);
+    refused(page, 16, 6, 223, 0, 196);
+    refused(page, 16, 9, 0, 2007, 2299);
+    refused(page, 16, 1, 223, 0, 36);
+    refused(page, 8, 1, 239, 1, 20);
 }
 
 // Each length one short and one over, both wrong, and empty ones.
-fn lengths() {
-    refused(16, 1, 222, 0, 37);
-    refused(16, 1, 222, 2, 37);
-    refused(16, 1, 222, 1, 36);
-    refused(16, 1, 222, 1, 38);
-    refused(16, 1, 222, 2, 36);
-    refused(16, 1, 222, 0, 0);
-    refused(8, 8, 0, 1912, 2045);
-    refused(8, 8, 0, 1913, 2044);
+fn lengths(page: &mut Page) {
+    refused(page, 16, 1, 222, 0, 37);
+    refused(page, 16, 1, 222, 2, 37);
+    refused(page, 16, 1, 222, 1, 36);
+    refused(page, 16, 1, 222, 1, 38);
+    refused(page, 16, 1, 222, 2, 36);
+    refused(page, 16, 1, 222, 0, 0);
+    refused(page, 8, 8, 0, 1912, 2045);
+    refused(page, 8, 8, 0, 1913, 2044);
 }
 
 // Each tolerance, and one past the last.
-fn tolerances(marked: &[u8]) {
-    received(16, 1, 222, 16, 0, true, marked, 1);
-    received(16, 1, 222, 16, 1, true, marked, 1);
-    received(16, 1, 222, 16, 2, true, marked, 1);
-    received(16, 1, 222, 16, 3, true, marked, 1);
-    received(16, 1, 222, 16, 4, true, marked, 1);
+fn tolerances(page: &mut Page, marked: &[u8]) {
+    received(page, 16, 1, 222, 16, 0, true, marked, 1);
+    received(page, 16, 1, 222, 16, 1, true, marked, 1);
+    received(page, 16, 1, 222, 16, 2, true, marked, 1);
+    received(page, 16, 1, 222, 16, 3, true, marked, 1);
+    received(page, 16, 1, 222, 16, 4, true, marked, 1);
 }
 
 // A marker with no to four wrong bits.
-fn wrong_markers(added: u8) {
+fn wrong_markers(page: &mut Page, added: u8) {
     let mut marked = [170u8; 37];
-    calls::transmit(16, 1, 222, true, b"\xC3", &mut marked);
+    calls::transmit(page, 16, 1, 222, true, b"\xC3", &mut marked);
     changes(&mut marked, 0, 1, 37, added);
-    tolerances(&marked);
+    tolerances(page, &marked);
     change(&mut marked, 0, 0x80);
-    tolerances(&marked);
+    tolerances(page, &marked);
     change(&mut marked, 3, 0x01);
-    tolerances(&marked);
+    tolerances(page, &marked);
     change(&mut marked, 1, 0x10);
-    tolerances(&marked);
+    tolerances(page, &marked);
     change(&mut marked, 2, 0x08);
-    tolerances(&marked);
+    tolerances(page, &marked);
 }
 
 // Word 1 of three with E wrong symbols, then one in word 0 too, then one more in word 1.
-fn damaged(e: u32, wrong: usize, randomised: bool, added: u8, frame: &[u8])
+fn damaged(page: &mut Page, e: u32, wrong: usize, randomised: bool, added: u8, frame: &[u8])
     requires { (1 ≤ e) × (wrong ≤ 255) }
 {
     let mut marked = [170u8; 169];
     let n = frame.len();
-    calls::transmit(e, 3, 200, randomised, frame, &mut marked);
+    calls::transmit(page, e, 3, 200, randomised, frame, &mut marked);
     changes(&mut marked, 0, 1, 169, added);
     changes(&mut marked, 5, 3, wrong, 0x5A);
-    received(e, 3, 200, e, 0, randomised, &marked, n);
-    received(e, 3, 200, e - 1, 0, randomised, &marked, n);
+    received(page, e, 3, 200, e, 0, randomised, &marked, n);
+    received(page, e, 3, 200, e - 1, 0, randomised, &marked, n);
     change(&mut marked, 4, 0x5A);
-    received(e, 3, 200, e, 0, randomised, &marked, n);
-    received(e, 3, 200, 0, 0, randomised, &marked, n);
+    received(page, e, 3, 200, e, 0, randomised, &marked, n);
+    received(page, e, 3, 200, 0, 0, randomised, &marked, n);
     change(&mut marked, 167, 0x5A);
-    received(e, 3, 200, e, 0, randomised, &marked, n);
+    received(page, e, 3, 200, e, 0, randomised, &marked, n);
 }
 
 // A lost word behind a wrong marker, and before them one by one the faults that come earlier in the order.
-fn earlier_faults(marked: &[u8]) {
+fn earlier_faults(page: &mut Page, marked: &[u8]) {
     if marked.len() < 36 {
         return;
     }
-    received(16, 1, 222, 16, 3, false, marked, 2);
-    received(16, 1, 222, 16, 3, false, &marked[0..36], 2);
-    received(16, 1, 222, 16, 4, false, &marked[0..36], 1);
-    received(16, 1, 222, 17, 4, false, marked, 1);
-    received(16, 1, 223, 17, 3, false, marked, 1);
-    received(16, 6, 223, 17, 3, false, marked, 1);
-    received(15, 6, 223, 17, 3, false, marked, 1);
-    received(16, 1, 222, u32::MAX, u32::MAX, false, b"", 0);
-    received(16, 1, 222, 16, u32::MAX, false, b"", 0);
-    received(16, 1, 222, 0, 0, false, b"", 1);
+    received(page, 16, 1, 222, 16, 3, false, marked, 2);
+    received(page, 16, 1, 222, 16, 3, false, &marked[0..36], 2);
+    received(page, 16, 1, 222, 16, 4, false, &marked[0..36], 1);
+    received(page, 16, 1, 222, 17, 4, false, marked, 1);
+    received(page, 16, 1, 223, 17, 3, false, marked, 1);
+    received(page, 16, 6, 223, 17, 3, false, marked, 1);
+    received(page, 15, 6, 223, 17, 3, false, marked, 1);
+    received(page, 16, 1, 222, u32::MAX, u32::MAX, false, b"", 0);
+    received(page, 16, 1, 222, 16, u32::MAX, false, b"", 0);
+    received(page, 16, 1, 222, 0, 0, false, b"", 1);
 }
 
 // A lost word, then a wrong marker too, then the earlier faults.
-fn two_faults(added: u8) {
+fn two_faults(page: &mut Page, added: u8) {
     let mut marked = [170u8; 37];
-    calls::transmit(16, 1, 222, false, b"\x00", &mut marked);
+    calls::transmit(page, 16, 1, 222, false, b"\x00", &mut marked);
     changes(&mut marked, 0, 1, 37, added);
     changes(&mut marked, 4, 1, 17, 0xFF);
-    received(16, 1, 222, 16, 3, false, &marked, 1);
+    received(page, 16, 1, 222, 16, 3, false, &marked, 1);
     changes(&mut marked, 0, 1, 4, 0x40);
-    received(16, 1, 222, 16, 3, false, &marked, 1);
-    earlier_faults(&marked);
+    received(page, 16, 1, 222, 16, 3, false, &marked, 1);
+    earlier_faults(page, &marked);
 }
 
 // All marked blocks as they were sent, or with all bits inverted.
-fn either_way(added: u8) {
-    wrong_markers(added);
+fn either_way(page: &mut Page, added: u8) {
+    wrong_markers(page, added);
     let mut long = [0u8; 69];
     print::fill(41, &mut long);
-    damaged(16, 16, true, added, &long);
+    damaged(page, 16, 16, true, added, &long);
     let mut longer = [0u8; 117];
     print::fill(41, &mut longer);
-    damaged(8, 8, false, added, &longer);
-    two_faults(added);
+    damaged(page, 8, 8, false, added, &longer);
+    two_faults(page, added);
 }
 
-pub(crate) fn all() {
-    codes();
-    parameters();
-    lengths();
-    either_way(0x00);
-    either_way(0xFF);
+pub(crate) fn all(page: &mut Page) {
+    codes(page);
+    parameters(page);
+    lengths(page);
+    either_way(page, 0x00);
+    either_way(page, 0xFF);
 }

@@ -15,15 +15,20 @@ mod randomising;
 mod salvaging;
 mod symbols;
 
-fn main() {
-    symbols::all();
-    randomising::all();
-    marking::all();
-    convolving::all();
-    likeliest::all();
-    limits::all();
-    coding::all();
-    salvaging::all();
-    portioning::all();
-    chaining::all();
+use print::Page;
+use std::io;
+
+fn main(rt: HostRuntime) -> io::Result<()> {
+    let mut page = Page::new(rt.stdout());
+    symbols::all(&mut page);
+    randomising::all(&mut page);
+    marking::all(&mut page);
+    convolving::all(&mut page);
+    likeliest::all(&mut page);
+    limits::all(&mut page);
+    coding::all(&mut page);
+    salvaging::all(&mut page);
+    portioning::all(&mut page);
+    chaining::all(&mut page);
+    page.finish()
 }

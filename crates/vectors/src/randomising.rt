@@ -1,66 +1,67 @@
 // The sequence, and the randomiser at its limits.
 use crate::print;
+use crate::print::Page;
 use randomiser::Register;
 
-fn bits(octet: u8) {
-    print::text(b" ");
+fn bits(page: &mut Page, octet: u8) {
+    print::text(page, b" ");
     let mut left = octet;
     for _ in 0u32..8 {
         if left < 128 {
-            print::text(b"0");
+            print::text(page, b"0");
         } else {
-            print::text(b"1");
+            print::text(page, b"1");
         }
         left = left % 128 * 2;
     }
 }
 
 // The first 40 bits, as source 000 prints them.
-fn first_bits() {
-    print::text(b"sequence");
+fn first_bits(page: &mut Page) {
+    print::text(page, b"sequence");
     let mut register = Register { bits: 0xFF };
     for _ in 0u32..5 {
-        bits(randomiser::next_bits(&mut register.bits));
+        bits(page, randomiser::next_bits(&mut register.bits));
     }
-    print::end();
+    print::end(page);
 }
 
 // Each register content: the octet it gives, and the content it is left with.
-fn contents() {
+fn contents(page: &mut Page) {
     for content in 0..=255u8 {
         let mut register = Register { bits: content };
-        print::text(b"register");
-        print::octet(randomiser::next_bits(&mut register.bits));
-        print::octet(register.bits);
-        print::end();
+        print::text(page, b"register");
+        print::octet(page, randomiser::next_bits(&mut register.bits));
+        print::octet(page, register.bits);
+        print::end(page);
     }
 }
 
-fn block(octets: &mut [u8]) {
+fn block(page: &mut Page, octets: &mut [u8]) {
     print::fill(7, &mut *octets);
-    print::text(b"randomise");
-    print::verdict(randomiser::randomise(&mut *octets));
-    print::buffer(octets);
-    print::text(b" twice");
-    print::verdict(randomiser::randomise(&mut *octets));
-    print::buffer(octets);
-    print::end();
+    print::text(page, b"randomise");
+    print::verdict(page, randomiser::randomise(&mut *octets));
+    print::buffer(page, octets);
+    print::text(page, b" twice");
+    print::verdict(page, randomiser::randomise(&mut *octets));
+    print::buffer(page, octets);
+    print::end(page);
 }
 
-fn of_length(octets: &mut [u8], n: usize) {
+fn of_length(page: &mut Page, octets: &mut [u8], n: usize) {
     if n <= octets.len() {
-        block(&mut octets[0..n]);
+        block(page, &mut octets[0..n]);
     }
 }
 
-pub(crate) fn all() {
-    first_bits();
-    contents();
+pub(crate) fn all(page: &mut Page) {
+    first_bits(page);
+    contents(page);
     let mut octets = [0u8; 2041];
-    of_length(&mut octets, 0);
-    of_length(&mut octets, 1);
-    of_length(&mut octets, 5);
-    of_length(&mut octets, 300);
-    of_length(&mut octets, 2040);
-    of_length(&mut octets, 2041);
+    of_length(page, &mut octets, 0);
+    of_length(page, &mut octets, 1);
+    of_length(page, &mut octets, 5);
+    of_length(page, &mut octets, 300);
+    of_length(page, &mut octets, 2040);
+    of_length(page, &mut octets, 2041);
 }
