@@ -9,10 +9,9 @@ fn drawn(x: u32) -> u8 {
 }
 
 pub(crate) fn fill(x: u32, s: &mut [u8]) {
-    let n = s.len();
     let mut y = x;
-    for i in 0..n {
+    for octet in s.iter_mut() {
         y = turn(y);
-        s[i] = drawn(y);
+        *octet = drawn(y);
     }
 }

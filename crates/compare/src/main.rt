@@ -10,29 +10,34 @@ mod data;
 mod print;
 mod trials;
 
+use print::Page;
+use std::io;
+
 // No fill, one symbol, the middle, and all information symbols but one.
-fn fills(e: u32, depth: u32)
+fn fills(page: &mut Page, e: u32, depth: u32)
     requires { (1 ≤ e) × (e ≤ 16) × (depth ≤ 8) }
 {
     let information = 255 - 2 * e;
-    trials::all(e, depth, 0);
-    trials::all(e, depth, 1);
-    trials::all(e, depth, information / 2);
-    trials::all(e, depth, information - 1);
+    trials::all(page, e, depth, 0);
+    trials::all(page, e, depth, 1);
+    trials::all(page, e, depth, information / 2);
+    trials::all(page, e, depth, information - 1);
 }
 
-fn depths(e: u32)
+fn depths(page: &mut Page, e: u32)
     requires { (1 ≤ e) × (e ≤ 16) }
 {
-    fills(e, 1);
-    fills(e, 2);
-    fills(e, 3);
-    fills(e, 4);
-    fills(e, 5);
-    fills(e, 8);
+    fills(page, e, 1);
+    fills(page, e, 2);
+    fills(page, e, 3);
+    fills(page, e, 4);
+    fills(page, e, 5);
+    fills(page, e, 8);
 }
 
-fn main() {
-    depths(8);
-    depths(16);
+fn main(rt: HostRuntime) -> io::Result<()> {
+    let mut page = Page::new(rt.stdout());
+    depths(&mut page, 8);
+    depths(&mut page, 16);
+    page.finish()
 }

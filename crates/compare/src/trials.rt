@@ -2,6 +2,7 @@
 ghost use Rattle.std.specs.Prelude.{length, ◌+◌, ◌*◌, ◌≤◌};
 
 use crate::damage::Damage;
+use crate::print::Page;
 use crate::{calls, damage, data};
 
 fn interleaved(symbols: u32, depth: u32) -> usize
@@ -20,6 +21,7 @@ fn interleaved(symbols: u32, depth: u32) -> usize
 }
 
 fn decoded(
+    page: &mut Page,
     e: u32,
     depth: u32,
     fill: u32,
@@ -32,11 +34,20 @@ fn decoded(
 {
     let seed = damage::number_of(damage) * 100 + e + depth + fill;
     damage::words(&mut *received, e, depth, fill, damage, seed);
-    calls::decode(e, depth, fill, s, received, frame);
+    calls::decode(page, e, depth, fill, s, received, frame);
 }
 
 // The block damaged, and decoded into a frame of so many octets.
-fn damaged(e: u32, depth: u32, fill: u32, damage: Damage, s: u32, block: &[u8], frame: usize)
+fn damaged(
+    page: &mut Page,
+    e: u32,
+    depth: u32,
+    fill: u32,
+    damage: Damage,
+    s: u32,
+    block: &[u8],
+    frame: usize,
+)
     requires { (e ≤ 16) × (depth ≤ 8) × (fill ≤ 255) × (length block.now ≤ 2040) × (frame ≤ 2040) }
 {
     let mut received = [0u8; 2040];
@@ -44,6 +55,7 @@ fn damaged(e: u32, depth: u32, fill: u32, damage: Damage, s: u32, block: &[u8], 
     let n = block.len();
     octets::copy_front(block, &mut received);
     decoded(
+        page,
         e,
         depth,
         fill,
@@ -55,34 +67,34 @@ fn damaged(e: u32, depth: u32, fill: u32, damage: Damage, s: u32, block: &[u8], 
 }
 
 // Up to E wrong symbols in a word, at the full allowance and at a smaller one.
-fn within(e: u32, depth: u32, fill: u32, block: &[u8], frame: usize)
+fn within(page: &mut Page, e: u32, depth: u32, fill: u32, block: &[u8], frame: usize)
     requires { (1 ≤ e) × (e ≤ 16) × (depth ≤ 8) × (fill ≤ 255) × (length block.now ≤ 2040) × (frame ≤ 2040) }
 {
-    damaged(e, depth, fill, Damage::None, 0, block, frame);
-    damaged(e, depth, fill, Damage::Mixed, e, block, frame);
-    damaged(e, depth, fill, Damage::Mixed, 6, block, frame);
-    damaged(e, depth, fill, Damage::Full, e, block, frame);
-    damaged(e, depth, fill, Damage::Full, e - 1, block, frame);
+    damaged(page, e, depth, fill, Damage::None, 0, block, frame);
+    damaged(page, e, depth, fill, Damage::Mixed, e, block, frame);
+    damaged(page, e, depth, fill, Damage::Mixed, 6, block, frame);
+    damaged(page, e, depth, fill, Damage::Full, e, block, frame);
+    damaged(page, e, depth, fill, Damage::Full, e - 1, block, frame);
 }
 
 // E + 1 wrong symbols in the last word, or in some.
-fn past(e: u32, depth: u32, fill: u32, block: &[u8], frame: usize)
+fn past(page: &mut Page, e: u32, depth: u32, fill: u32, block: &[u8], frame: usize)
     requires { (e ≤ 16) × (depth ≤ 8) × (fill ≤ 255) × (length block.now ≤ 2040) × (frame ≤ 2040) }
 {
-    damaged(e, depth, fill, Damage::LastPast, e, block, frame);
-    damaged(e, depth, fill, Damage::SomePast, e, block, frame);
+    damaged(page, e, depth, fill, Damage::LastPast, e, block, frame);
+    damaged(page, e, depth, fill, Damage::SomePast, e, block, frame);
 }
 
-fn coded(e: u32, depth: u32, fill: u32, information: &[u8], block: &mut [u8])
+fn coded(page: &mut Page, e: u32, depth: u32, fill: u32, information: &[u8], block: &mut [u8])
     requires { (1 ≤ e) × (e ≤ 16) × (depth ≤ 8) × (fill ≤ 255) × (length information.now ≤ 2040) × (length block.old ≤ 2040) }
 {
-    calls::encode(e, depth, fill, information, &mut *block);
+    calls::encode(page, e, depth, fill, information, &mut *block);
     let frame = information.len();
-    within(e, depth, fill, block, frame);
-    past(e, depth, fill, block, frame);
+    within(page, e, depth, fill, block, frame);
+    past(page, e, depth, fill, block, frame);
 }
 
-pub(crate) fn all(e: u32, depth: u32, fill: u32)
+pub(crate) fn all(page: &mut Page, e: u32, depth: u32, fill: u32)
     requires { (1 ≤ e) × (e ≤ 16) × (depth ≤ 8) × (2 * e + fill ≤ 254) }
 {
     let sent = interleaved(255 - fill, depth);
@@ -90,5 +102,12 @@ pub(crate) fn all(e: u32, depth: u32, fill: u32)
     let mut information = [0u8; 2040];
     let mut block = [170u8; 2040];
     data::fill(e + depth + fill, &mut information);
-    coded(e, depth, fill, &information[0..frame], &mut block[0..sent]);
+    coded(
+        page,
+        e,
+        depth,
+        fill,
+        &information[0..frame],
+        &mut block[0..sent],
+    );
 }
