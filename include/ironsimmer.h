@@ -1,9 +1,8 @@
 /*
  * Ironsimmer: the telemetry coder and decoder of ISO 11754 (CCSDS 101.0-B-5), depth 8 included, proved.
  *
- * Link target/staticlib/libironsimmer.a, which `rt staticlib ironsimmer` writes. It defines the calls below and no other global name. No
- * call allocates or keeps state, and none calls anything but memcpy and memset of the C library; all may be used from several threads at
- * once.
+ * Link target/staticlib/libironsimmer.a, which ./archive writes. It defines the calls below and no other global name. No call allocates or
+ * keeps state, and none calls anything but memcpy and memset of the C library; all may be used from several threads at once.
  *
  * Every call but ironsimmer_sequence returns one number: IRONSIMMER_NUMBER of it is the refusal's number, 0 if the call was accepted,
  * and IRONSIMMER_VALUE the refusal's value (of 9 the wrong bits of the form that has fewer, of 10 the lowest word that has no codeword;

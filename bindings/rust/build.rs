@@ -1,4 +1,4 @@
-//! Links libironsimmer.a, from the folder that IRONSIMMER_LIB names or else from where `rt staticlib ironsimmer` writes it.
+//! Links libironsimmer.a, from the folder that IRONSIMMER_LIB names or else from where ./archive writes it.
 
 use std::env;
 use std::path::PathBuf;
@@ -20,7 +20,7 @@ fn main() {
     println!("cargo:rerun-if-changed={}", archive.display());
     assert!(
         archive.is_file(),
-        "{} is not there: run `rt staticlib ironsimmer` at the repository's root, or name the archive's folder in {VARIABLE}",
+        "{} is not there: run ./archive at the repository's root, or name the archive's folder in {VARIABLE}",
         archive.display()
     );
     println!("cargo:rustc-link-search=native={}", folder.display());
