@@ -34,12 +34,12 @@ pub returns-then-not-found : goal.returns-then-not-found
 returns-then-not-found c =
     not_found_is _ _ c.args.sent.now _ _ _ c.not_found.ensures.0 c.not_found.ensures.1 c.not_found.ensures.2
     (λ legal. none_good _ _ c.args.sent.now c.requires
-    (octets_of_lem c.args.sent.now (λ i. omega (arith, c.shared_slice_known-1.given i))) _ c.syndromes_of-sums.ensures _
+    (octets_of_lem c.args.sent.now (λ i. omega (arith, c.type_inv.sent i))) _ c.syndromes_of-sums.ensures _
     c.no_marks-marks.ensures.0 c.no_marks-marks.ensures.1 _ _ _ c.decode_word-decision.ensures.1 c.if-not-found.true)
 
 pub returns : goal.returns
 returns c =
     found_good _ _ c.args.sent.now c.requires
-    (octets_of_lem c.args.sent.now (λ i. omega (arith, c.shared_slice_known-1.given i))) _ c.syndromes_of-sums.ensures _
+    (octets_of_lem c.args.sent.now (λ i. omega (arith, c.type_inv.sent i))) _ c.syndromes_of-sums.ensures _
     c.no_marks-marks.ensures.0 c.no_marks-marks.ensures.1 _ _ _ c.decode_word-decision.ensures.1
     c.if-not-found.false _ c.on_line-line_errors.ensures

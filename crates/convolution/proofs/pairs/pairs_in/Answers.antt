@@ -23,7 +23,7 @@ loop-i-preserved c =
       omega arith,
       omega arith,
       c.put_pair-in-loop-i.ensures.long ∙ at.invariant.2,
-      λ r six first. paired_on r octets six at.i at.symbols _ at.invariant.0 inside (omega (arith, c.shared_slice_known-1.given (at.i - 1))) c.put_pair-in-loop-i.ensures (at.invariant.3 r six first),
+      λ r six first. paired_on r octets six at.i at.symbols _ at.invariant.0 inside (omega (arith, c.type_inv.octets (at.i - 1))) c.put_pair-in-loop-i.ensures (at.invariant.3 r six first),
     )
 
 pub returns : goal.returns
@@ -35,5 +35,5 @@ returns c =
     let some : 0 < length octets = omega (arith, at.invariant.0, at.invariant.1) in
     let all : at.i ≡ length octets = omega (arith, at.invariant.1) in
     let first = paired_first flow.register octets start.requires.1.register start.args.symbols.now _ some c.put_pair.ensures in
-    all_paired flow octets start.requires.1 start.requires.2 at.symbols some (omega (arith, c.shared_slice_known-1.given (length octets - 1)))
+    all_paired flow octets start.requires.1 start.requires.2 at.symbols some (omega (arith, c.type_inv.octets (length octets - 1)))
     (subst (λ (m : ℕ). Paired flow.register octets m at.symbols) all (at.invariant.3 flow.register start.requires.1.register first))

@@ -33,7 +33,7 @@ own_symbols-count-requires c =
     let run = c.all_in-end in
     let long : length run.new.symbols ≡ length start.args.symbols.now = run.auto.symbols in
     let few = not_long start.args.rate start.args.state start.args.octets.now start.args.symbols.now start.requires in
-    let most = enough start.args.rate start.args.state start.args.octets.now start.args.symbols.now start.requires first.result first.ensures run.result run.new.symbols run.ensures long (octets_known run.new.symbols (λ k h. omega (arith, c.slice_known-2-1.given k))) in
+    let most = enough start.args.rate start.args.state start.args.octets.now start.args.symbols.now start.requires first.result first.ensures run.result run.new.symbols run.ensures long (octets_known run.new.symbols (λ k h. omega (arith, c.type_inv.symbols k))) in
     (omega arith, run.ensures.sound.holds, omega arith)
 
 pub handed-next-requires : goal.handed-next-requires
@@ -48,4 +48,4 @@ returns c =
     let first = c.opened-start in
     let run = c.all_in-end in
     let long : length run.new.symbols ≡ length start.args.symbols.now = run.auto.symbols in
-    accepted start.args.rate start.args.state start.args.octets.now start.args.symbols.now start.requires first.result first.ensures run.result run.new.symbols run.ensures long (octets_known run.new.symbols (λ k h. omega (arith, c.slice_known-2-1.given k))) c.handed-next.result c.own_symbols-count.result c.handed-next.ensures (omega (arith, c.own_symbols-count.ensures, long))
+    accepted start.args.rate start.args.state start.args.octets.now start.args.symbols.now start.requires first.result first.ensures run.result run.new.symbols run.ensures long (octets_known run.new.symbols (λ k h. omega (arith, c.type_inv.symbols k))) c.handed-next.result c.own_symbols-count.result c.handed-next.ensures (omega (arith, c.own_symbols-count.ensures, long))

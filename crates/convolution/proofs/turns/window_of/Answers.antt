@@ -16,12 +16,12 @@ overflow_mul-window c =
     omega (arith, window_small at.window at.k (omega arith) (subst (λ (r : ℕ). r < 64) (sym at.invariant.1) c.requires.0))
 
 pub overflow_cast-window-in-loop-k : goal.overflow_cast-window-in-loop-k
-overflow_cast-window-in-loop-k c = omega (arith, c.shared_slice_known-1.given (c.args.at + c.loop-k.k))
+overflow_cast-window-in-loop-k c = omega (arith, c.type_inv.octets (c.args.at + c.loop-k.k))
 
 pub overflow_add-window-in-loop-k : goal.overflow_add-window-in-loop-k
 overflow_add-window-in-loop-k c =
     let at = c.loop-k in
-    omega (arith, window_small at.window at.k (omega arith) (subst (λ (r : ℕ). r < 64) (sym at.invariant.1) c.requires.0), c.shared_slice_known-1.given (c.args.at + at.k))
+    omega (arith, window_small at.window at.k (omega arith) (subst (λ (r : ℕ). r < 64) (sym at.invariant.1) c.requires.0), c.type_inv.octets (c.args.at + at.k))
 
 pub loop-k-preserved : goal.loop-k-preserved
 loop-k-preserved c =
@@ -29,7 +29,7 @@ loop-k-preserved c =
     let at = c.loop-k in
     let octets = start.args.octets.now in
     let octet = get_or octets (start.args.at + at.k) 0 in
-    let small : octet < 256 = omega (arith, c.shared_slice_known-1.given (start.args.at + at.k)) in (
+    let small : octet < 256 = omega (arith, c.type_inv.octets (start.args.at + at.k)) in (
       omega arith,
       window_above octets start.args.at at.k at.window octet (omega arith) small refl ∙ at.invariant.1,
       window-below octets start.args.at at.k at.window octet (omega arith) small refl at.invariant.2,

@@ -12,5 +12,5 @@ overflow_add-result-2 c = omega (arith, octet_most _ c.added.ensures, octet_most
 pub returns : goal.returns
 returns c =
     let given = c.args in
-    common_are given.stream.now given.i (λ n. omega (arith, c.shared_slice_known-4-1.given n))
+    common_are given.stream.now given.i (λ n. omega (arith, c.type_inv.stream n))
     c.added.ensures c.added-2.ensures c.added-3.ensures

@@ -13,6 +13,6 @@ returns c =
     let known = first in
     let octets = known.args.octets.now in
     let window : c.front_entered-3.result ≡ word 32 octets 0 =
-    four-octets octets _ _ _ _ (λ i. (known.shared_slice_known-1.given i).fits) first.front_entered.ensures
+    four-octets octets _ _ _ _ (λ i. (known.type_inv.octets i).fits) first.front_entered.ensures
     second.front_entered-half.ensures third.front_entered-2.ensures c.front_entered-3.ensures in
     named_at octets 0 (rw window (word-wrong octets 0)) c.nearer_form.ensures

@@ -14,7 +14,7 @@ loop-i-preserved c =
       omega arith,
       omega arith,
       moved_on a.stream.now a.start (omega arith)
-          (front-entered a.stream.now a.start turn.i 8 (c.shared_slice_known-in-loop-i-1.given turn.i).fits (omega arith) turn.invariant.0 turn.invariant.3 c.front_entered-window.ensures),
+          (front-entered a.stream.now a.start turn.i 8 (c.type_inv.stream turn.i).fits (omega arith) turn.invariant.0 turn.invariant.3 c.front_entered-window.ensures),
     )
 
 pub returns : goal.returns
@@ -22,5 +22,5 @@ returns c =
     let end = c.loop-i in
     let a = c.args in
     moved_on a.stream.now a.start (omega arith)
-    (front-entered a.stream.now a.start ((a.start + 31) / 8) ((a.start + 31) % 8) (c.shared_slice_known-2-1.given ((a.start + 31) / 8)).fits (omega arith) (omega arith)
+    (front-entered a.stream.now a.start ((a.start + 31) / 8) ((a.start + 31) % 8) (c.type_inv.stream ((a.start + 31) / 8)).fits (omega arith) (omega arith)
     (moved_on a.stream.now a.start (omega arith) end.invariant.3) c.front_entered.ensures)

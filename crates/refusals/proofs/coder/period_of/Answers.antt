@@ -1,5 +1,6 @@
 -- `period_of` has a case for each rate; the last is that of rate 5.
 use mathlib.Core.Path.{◌≡◌, refl}
+use native.Mathlib.Omega.{arith}
 use Rattle.refusals.proofs.Legal.{last_rate}
 use Rattle.refusals.proofs.coder.period_of.Goals as goal
 
@@ -16,4 +17,4 @@ pub returns-in-4 : goal.returns-in-4
 returns-in-4 c = let r : c.args.rate ≡ 4 = c.in-4.is in rw r refl
 
 pub returns-in_default : goal.returns-in_default
-returns-in_default c = let r : c.args.rate ≡ 5 = last_rate _ c.requires c.in_default.in_default-own.rest.0.0.0.1 c.in_default.in_default-own.rest.0.0.1 c.in_default.in_default-own.rest.0.1 c.in_default.in_default-own.rest.1 in rw r refl
+returns-in_default c = let r : c.args.rate ≡ 5 = last_rate _ c.requires (omega arith) (omega arith) (omega arith) (omega arith) in rw r refl

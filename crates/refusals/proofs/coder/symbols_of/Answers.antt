@@ -17,4 +17,4 @@ pub returns-in-4 : goal.returns-in-4
 returns-in-4 c = (let r : c.args.rate ≡ 4 = c.in-4.is in rw r refl, omega arith)
 
 pub returns-in_default : goal.returns-in_default
-returns-in_default c = (let r : c.args.rate ≡ 5 = last_rate _ c.requires.0 c.in_default.in_default-own.rest.0.0.0.1 c.in_default.in_default-own.rest.0.0.1 c.in_default.in_default-own.rest.0.1 c.in_default.in_default-own.rest.1 in rw r refl, omega arith)
+returns-in_default c = (let r : c.args.rate ≡ 5 = last_rate _ c.requires.0 (omega arith) (omega arith) (omega arith) (omega arith) in rw r refl, omega arith)

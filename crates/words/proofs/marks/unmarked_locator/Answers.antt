@@ -10,7 +10,7 @@ use Rattle.words.proofs.marks.unmarked_locator.Goals as goal
 pub returns-then-f-eq0 : goal.returns-then-f-eq0
 returns-then-f-eq0 c =
     let known = c in
-    holds_unmarked known.args.s.now known.args.marks.now (omega arith) (λ i. omega (arith, known.shared_slice_known-1.given i)) _ _ _
+    holds_unmarked known.args.s.now known.args.marks.now (omega arith) (λ i. omega (arith, known.type_inv.s i)) _ _ _
     c.shortest_register-g.ensures c.polynomial-sigma.ensures
 
 pub slice_bounds-changed-end : goal.slice_bounds-changed-end

@@ -10,7 +10,7 @@ pub loop-n-init : goal.loop-n-init
 loop-n-init c = (
   omega arith,
   omega arith,
-  turned-start _ _ _ _ (λ i. omega (arith, c.shared_slice_known-1.given i)) c.padded-gaps.ensures
+  turned-start _ _ _ _ (λ i. omega (arith, c.type_inv.s i)) c.padded-gaps.ensures
       c.behind_zeros-kept.ensures c.behind_zeros-kept_gaps.ensures,
 )
 

@@ -25,4 +25,4 @@ pub returns : goal.returns
 returns c =
     let known = c in
     summed_ends _ known.args.word.now _ c.loop-j.j c.loop-j.invariant.2 (omega arith)
-    (octets_of_lem known.args.word.now (λ i. omega (arith, known.shared_slice_known-1.given i)))
+    (octets_of_lem known.args.word.now (λ i. omega (arith, known.type_inv.word i)))
