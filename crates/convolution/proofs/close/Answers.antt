@@ -12,28 +12,25 @@ use Rattle.convolution.proofs.close.Goals.{In_default}
 -- What the checks have left when they have passed.
 legal : (c : In_default) → LegalClose c.args.rate c.args.state (length c.args.symbols.now)
 legal c =
-    let start = c in
     let checked = c.coder_close_parameters-checked in
-    legal_close start.args.rate start.args.state _ (passed (coder_close_order _ _ _ _ _) checked.result c.in_default.is checked.ensures)
+    legal_close c.args.rate c.args.state _ (passed (coder_close_order _ _ _ _ _) checked.result c.in_default.is checked.ensures)
 
 pub returns-in-Refused : goal.returns-in-Refused
 returns-in-Refused c = close_refused _ _ _ _ c.coder_close_parameters-checked.ensures _ c.in-Refused.is
 
 pub returns-then-holds-eq0 : goal.returns-then-holds-eq0
 returns-then-holds-eq0 c =
-    let start = c in
     let checked = c.coder_close_parameters-checked in
     let none = c.if-holds-eq0.true in
-    close_done start.args.rate start.args.state start.args.symbols.now checked.result checked.ensures 0 start.args.symbols.now c.in_default.is (sym none)
-    (closed_none start.args.state start.args.symbols.now none (legal (goal.at.returns-then-holds-eq0 c).In_default).room)
+    close_done c.args.rate c.args.state c.args.symbols.now checked.result checked.ensures 0 c.args.symbols.now c.in_default.is (sym none)
+    (closed_none c.args.state c.args.symbols.now none (legal (goal.at.returns-then-holds-eq0 c).In_default).room)
 
 pub returns : goal.returns
 returns c =
-    let start = c in
     let checked = c.coder_close_parameters-checked in
     let known = legal (goal.at.returns c).In_default in
-    close_done start.args.rate start.args.state start.args.symbols.now checked.result checked.ensures start.args.state.holds _ c.in_default.is refl
-    (closed_some start.args.state start.args.symbols.now c.last_octet.result (omega (arith, c.if-holds-eq0.false)) known.coder.holds known.room (c.last_octet.ensures ∙ ap first_octet c.top_bits.ensures.0))
+    close_done c.args.rate c.args.state c.args.symbols.now checked.result checked.ensures c.args.state.holds _ c.in_default.is refl
+    (closed_some c.args.state c.args.symbols.now c.last_octet.result (omega (arith, c.if-holds-eq0.false)) known.coder.holds known.room (c.last_octet.ensures ∙ ap first_octet c.top_bits.ensures.0))
 
 pub top_bits-requires : goal.top_bits-requires
 top_bits-requires c = (legal (goal.at.top_bits-requires c).In_default).coder.holds

@@ -14,7 +14,6 @@ run_on-requires c =
 
 pub returns : goal.returns
 returns c =
-    let start = c in
     let checked = c.convolve_parameters-checked in
     let run = c.run_on in
-    done_outcome start.args.rate start.args.state start.args.octets.now start.args.symbols.now checked.result checked.ensures run.result run.new.symbols c.in_default.is run.ensures
+    done_outcome c.args.rate c.args.state c.args.octets.now c.args.symbols.now checked.result checked.ensures run.result run.new.symbols c.in_default.is run.ensures

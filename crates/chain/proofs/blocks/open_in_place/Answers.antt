@@ -5,5 +5,4 @@ use Rattle.chain.proofs.blocks.open_in_place.Goals as goal
 
 pub returns : goal.returns
 returns c =
-    let inversion = c in
-    c.randomise_if.ensures ∙ ap (randomised_if inversion.args.randomised) inversion.invert_if.ensures
+    c.randomise_if.ensures ∙ ap (randomised_if c.args.randomised) c.invert_if.ensures

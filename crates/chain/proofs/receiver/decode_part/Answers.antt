@@ -9,16 +9,12 @@ slice_bounds-decode-end c =
 
 pub returns-in-Refused : goal.returns-in-Refused
 returns-in-Refused c =
-    let decoding = c in
-    let opening = decoding in
-    let a = opening.args in
-    part_refused a.e a.depth a.fill a.s _ a.frame.now _ a.inverted _ _ _ _ opening.open_block.ensures.1 decoding.decode-decoding.ensures _
+    let a = c.args in
+    part_refused a.e a.depth a.fill a.s _ a.frame.now _ a.inverted _ _ _ _ c.open_block.ensures.1 c.decode-decoding.ensures _
     c.in-Refused.is _ _ _ _ c.refused.ensures
 
 pub returns : goal.returns
 returns c =
-    let decoding = c in
-    let opening = decoding in
-    let a = opening.args in
-    part_delivered a.e a.depth a.fill a.s _ a.frame.now _ a.inverted _ _ _ _ opening.open_block.ensures.1 decoding.decode-decoding.ensures
+    let a = c.args in
+    part_delivered a.e a.depth a.fill a.s _ a.frame.now _ a.inverted _ _ _ _ c.open_block.ensures.1 c.decode-decoding.ensures
     c.in_default.is

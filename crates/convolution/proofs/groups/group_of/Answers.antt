@@ -15,8 +15,7 @@ returns-then-rate-eq3 c = subst (λ (r : ℕ). Grouped r _) (sym c.if-rate-eq3.t
 
 pub longer_group-requires : goal.longer_group-requires
 longer_group-requires c =
-    let start = c in
-    (start.requires.0, omega (arith, rate_bounds start.args.rate start.requires.0, start.requires.1, c.if-rate-eq3.false, c.if-rate-eq2.false))
+    (c.requires.0, omega (arith, rate_bounds c.args.rate c.requires.0, c.requires.1, c.if-rate-eq3.false, c.if-rate-eq2.false))
 
 pub returns : goal.returns
 returns c = c.longer_group.ensures

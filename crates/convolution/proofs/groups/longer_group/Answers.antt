@@ -12,6 +12,5 @@ returns-then-rate-eq4 c = subst (λ (r : ℕ). Grouped r _) (sym c.if-rate-eq4.t
 
 pub returns : goal.returns
 returns c =
-    let start = c in
-    let five : start.args.rate ≡ 5 = omega (arith, rate_bounds start.args.rate start.requires.0, start.requires.1, c.if-rate-eq4.false) in
+    let five : c.args.rate ≡ 5 = omega (arith, rate_bounds c.args.rate c.requires.0, c.requires.1, c.if-rate-eq4.false) in
     subst (λ (r : ℕ). Grouped r _) (sym five) grouped_5

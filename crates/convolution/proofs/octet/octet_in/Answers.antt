@@ -5,7 +5,6 @@ use Rattle.convolution.proofs.octet.octet_in.Goals as goal
 
 pub returns : goal.returns
 returns c =
-    let start = c in
-    octet_filled start.args.rate start.args.octet start.args.state (omega arith) start.requires.1.register
+    octet_filled c.args.rate c.args.octet c.args.state (omega arith) c.requires.1.register
     c.sums_by_g1-first.result c.sums_by_g2.result c.inverted_at_half-second.result c.picked-sent.result
     c.sums_by_g1-first.ensures.0 c.sums_by_g2.ensures.0 c.inverted_at_half-second.ensures.0 c.picked-sent.ensures

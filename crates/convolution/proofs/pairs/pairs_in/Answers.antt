@@ -8,17 +8,15 @@ use Rattle.convolution.proofs.pairs.pairs_in.Goals as goal
 
 pub returns-then-n-eq0 : goal.returns-then-n-eq0
 returns-then-n-eq0 c =
-    let start = c in
-    nothing_in start.args.start start.args.octets.now start.args.symbols.now start.requires.1 start.requires.2 c.if-n-eq0.true
+    nothing_in c.args.start c.args.octets.now c.args.symbols.now c.requires.1 c.requires.2 c.if-n-eq0.true
 
 pub loop-i-init : goal.loop-i-init
 loop-i-init c = (omega arith, omega (arith, c.if-n-eq0.false), refl, λ r h p. p)
 
 pub loop-i-preserved : goal.loop-i-preserved
 loop-i-preserved c =
-    let start = c in
     let at = c.loop-i in
-    let octets = start.args.octets.now in
+    let octets = c.args.octets.now in
     let inside : at.i < length octets = omega arith in (
       omega arith,
       omega arith,
@@ -28,12 +26,11 @@ loop-i-preserved c =
 
 pub returns : goal.returns
 returns c =
-    let start = c in
     let at = c.loop-i in
-    let octets = start.args.octets.now in
-    let flow = start.args.start in
+    let octets = c.args.octets.now in
+    let flow = c.args.start in
     let some : 0 < length octets = omega (arith, at.invariant.0, at.invariant.1) in
     let all : at.i ≡ length octets = omega (arith, at.invariant.1) in
-    let first = paired_first flow.register octets start.requires.1.register start.args.symbols.now _ some c.put_pair.ensures in
-    all_paired flow octets start.requires.1 start.requires.2 at.symbols some (omega (arith, c.type_inv.octets (length octets - 1)))
-    (subst (λ (m : ℕ). Paired flow.register octets m at.symbols) all (at.invariant.3 flow.register start.requires.1.register first))
+    let first = paired_first flow.register octets c.requires.1.register c.args.symbols.now _ some c.put_pair.ensures in
+    all_paired flow octets c.requires.1 c.requires.2 at.symbols some (omega (arith, c.type_inv.octets (length octets - 1)))
+    (subst (λ (m : ℕ). Paired flow.register octets m at.symbols) all (at.invariant.3 flow.register c.requires.1.register first))

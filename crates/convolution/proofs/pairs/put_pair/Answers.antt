@@ -8,12 +8,10 @@ octet_in-full-requires c = (c.requires.0, record { register = c.requires.1; plac
 
 pub write_ready-requires : goal.write_ready-requires
 write_ready-requires c =
-    let start = c in
     let full = c.octet_in-full in
-    (full.ensures.holds, omega (arith, sixteen start.args.register start.args.octet full.result full.ensures, start.requires.2))
+    (full.ensures.holds, omega (arith, sixteen c.args.register c.args.octet full.result full.ensures, c.requires.2))
 
 pub returns : goal.returns
 returns c =
-    let start = c in
     let full = c.octet_in-full in
-    pair_put start.args.register start.args.octet full.result full.ensures start.args.symbols.now _ start.args.at c.write_ready.ensures
+    pair_put c.args.register c.args.octet full.result full.ensures c.args.symbols.now _ c.args.at c.write_ready.ensures

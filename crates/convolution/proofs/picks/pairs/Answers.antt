@@ -19,15 +19,14 @@ overflow_add-result-2 c = omega (arith, c.spread.ensures, spread_small 8 c.args.
 
 pub returns : goal.returns
 returns c =
-    let start = c in
-    let s = start.args.state in
+    let s = c.args.state in
     let zero-place : s.place ≡ 0 = omega arith in
     record {
       symbols =
           ap₂ (λ (x y : ℕ). low_bits (s.holds + 16) (s.held * 65536 + (x * 2 + y))) c.spread.ensures c.spread-2.ensures
-          ∙ pairs_joined s.holds s.held start.args.first start.args.second
-          ∙ ap (λ (q : ℕ). low_bits s.holds s.held ++ picked_from 1 q (low_bits 8 start.args.first) (low_bits 8 start.args.second)) (sym zero-place);
+          ∙ pairs_joined s.holds s.held c.args.first c.args.second
+          ∙ ap (λ (q : ℕ). low_bits s.holds s.held ++ picked_from 1 q (low_bits 8 c.args.first) (low_bits 8 c.args.second)) (sym zero-place);
       place = omega arith;
-      small = start.requires.2;
+      small = c.requires.2;
       holds = omega arith;
     }

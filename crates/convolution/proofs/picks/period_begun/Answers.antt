@@ -8,12 +8,11 @@ use Rattle.convolution.proofs.picks.period_begun.Goals as goal
 
 pub returns : goal.returns
 returns c =
-    let start = c in
-    let s = start.args.picks in
+    let s = c.args.picks in
     let left = s.left - (s.ahead + 1) in
     record {
       left = omega arith;
       ahead = refl;
       holds = refl;
-      symbols = c.joined.ensures (s.holds + (s.ahead + 1)) (omega arith) ∙ ap (λ (l : List ℕ). l ++ low_bits 1 (start.args.second / 2 ^ left)) (c.joined-below.ensures s.holds (omega arith));
+      symbols = c.joined.ensures (s.holds + (s.ahead + 1)) (omega arith) ∙ ap (λ (l : List ℕ). l ++ low_bits 1 (c.args.second / 2 ^ left)) (c.joined-below.ensures s.holds (omega arith));
     }

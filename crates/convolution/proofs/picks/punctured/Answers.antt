@@ -10,38 +10,35 @@ use Rattle.convolution.proofs.picks.punctured.Goals as goal
 
 pub loop-s-init : goal.loop-s-init
 loop-s-init c =
-    let start = c in
-    let s = start.args.state in
+    let s = c.args.state in
     let a = c.ahead_of.result in (
       omega arith,
-      subst (λ (n : ℕ). n < start.args.period) (sym c.ahead_of.ensures) (ahead_small start.args.period s.place start.requires.1),
-      omega (arith, start.requires.2),
-      ap (λ (l : List ℕ). low_bits s.holds s.held ++ l) (starts start.args.rate start.args.period start.args.c1.now start.requires.0 s.place start.args.first start.requires.1 start.args.second c.merged-both.result a c.merged-both.ensures c.ahead_of.ensures),
-      starts_ahead start.args.rate start.args.period start.args.c1.now start.requires.0 s.place start.args.first start.requires.1 a c.ahead_of.ensures,
+      subst (λ (n : ℕ). n < c.args.period) (sym c.ahead_of.ensures) (ahead_small c.args.period s.place c.requires.1),
+      omega (arith, c.requires.2),
+      ap (λ (l : List ℕ). low_bits s.holds s.held ++ l) (starts c.args.rate c.args.period c.args.c1.now c.requires.0 s.place c.args.first c.requires.1 c.args.second c.merged-both.result a c.merged-both.ensures c.ahead_of.ensures),
+      starts_ahead c.args.rate c.args.period c.args.c1.now c.requires.0 s.place c.args.first c.requires.1 a c.ahead_of.ensures,
     )
 
 pub period_begun-s-requires : goal.period_begun-s-requires
 period_begun-s-requires c =
-    let start = c in
     let i = c.loop-s.invariant in
-    (some_period start.args.rate start.args.period start.args.c1.now start.requires.0, c.loop-s-test.true, i.0, omega (arith, i.2))
+    (some_period c.args.rate c.args.period c.args.c1.now c.requires.0, c.loop-s-test.true, i.0, omega (arith, i.2))
 
 pub loop-s-smaller : goal.loop-s-smaller
 loop-s-smaller c = omega (arith, c.period_begun-s.ensures.left)
 
 pub loop-s-preserved : goal.loop-s-preserved
 loop-s-preserved c =
-    let start = c in
     let i = c.loop-s.invariant in
     let s = c.loop-s.s in
     let begun = c.period_begun-s.ensures in
-    let period = start.args.period in
+    let period = c.args.period in
     let both = c.merged-both.result in (
       omega (arith, begun.left, i.0),
-      omega (arith, begun.ahead, some_period start.args.rate start.args.period start.args.c1.now start.requires.0),
+      omega (arith, begun.ahead, some_period c.args.rate c.args.period c.args.c1.now c.requires.0),
       omega (arith, begun.left, begun.holds, i.2),
-      begun_turn period s c.period_begun-s.result both start.args.second begun ∙ i.3,
-      begun_ahead period s c.period_begun-s.result both start.args.second begun ∙ i.4,
+      begun_turn period s c.period_begun-s.result both c.args.second begun ∙ i.3,
+      begun_ahead period s c.period_begun-s.result both c.args.second begun ∙ i.4,
     )
 
 pub place_of-requires : goal.place_of-requires
@@ -55,19 +52,18 @@ overflow_add-result c = omega (arith, c.loop-s.invariant.2)
 
 pub returns : goal.returns
 returns c =
-    let start = c in
     let at = c.loop-s in
     let s = at.s in
-    let st = start.args.state in
+    let st = c.args.state in
     let both = c.merged-both.result in
     let few : s.left ≤ s.ahead = omega (arith, c.loop-s-test.false) in
-    let place = c.place_of.ensures ∙ ends_place start.args.rate start.args.period start.args.c1.now start.requires.0 st.place start.args.first start.requires.1 s.ahead s.left few at.invariant.4 in
+    let place = c.place_of.ensures ∙ ends_place c.args.rate c.args.period c.args.c1.now c.requires.0 st.place c.args.first c.requires.1 s.ahead s.left few at.invariant.4 in
     record {
       symbols =
           c.joined.ensures s.holds (omega (arith, at.invariant.2))
-          ∙ ap (λ (l : List ℕ). low_bits s.holds s.held ++ l) (sym (second_none start.args.period s.ahead s.left both start.args.second few))
+          ∙ ap (λ (l : List ℕ). low_bits s.holds s.held ++ l) (sym (second_none c.args.period s.ahead s.left both c.args.second few))
           ∙ at.invariant.3;
       place = place;
-      small = subst (λ (n : ℕ). n < period start.args.rate) (sym place) (ends_small start.args.rate start.args.period start.args.c1.now start.requires.0 st.place start.args.first start.requires.1);
+      small = subst (λ (n : ℕ). n < period c.args.rate) (sym place) (ends_small c.args.rate c.args.period c.args.c1.now c.requires.0 st.place c.args.first c.requires.1);
       holds = omega (arith, at.invariant.2);
     }

@@ -11,52 +11,45 @@ use Rattle.convolution.proofs.running.all_in.Goals as goal
 
 pub groups_in-requires : goal.groups_in-requires
 groups_in-requires c =
-    let start = c in
-    (start.requires.0, start.requires.1, start.requires.2, c.if-rate-ne1.true)
+    (c.requires.0, c.requires.1, c.requires.2, c.if-rate-ne1.true)
 
 pub returns-then-rate-ne1 : goal.returns-then-rate-ne1
 returns-then-rate-ne1 c = c.groups_in.ensures
 
 pub pairs_in-requires : goal.pairs_in-requires
 pairs_in-requires c =
-    let start = c in
-    let half : start.args.rate ≡ 1 = c.if-rate-ne1.false in
+    let half : c.args.rate ≡ 1 = c.if-rate-ne1.false in
     let none = c.if-start-eq0.true in
-    let sound = subst (λ (r : ℕ). Sound r start.args.start) half start.requires.1 in
-    let enough = subst (λ (r : ℕ). length (stream r start.args.start (bits_of start.args.octets.now)) / 8 ≤ length start.args.symbols.now) half start.requires.2 in
-    (subst (λ (r : ℕ). Rows r start.args.period start.args.c1.now) half start.requires.0, sound, none, pairs_room start.args.start start.args.octets.now sound none _ enough)
+    let sound = subst (λ (r : ℕ). Sound r c.args.start) half c.requires.1 in
+    let enough = subst (λ (r : ℕ). length (stream r c.args.start (bits_of c.args.octets.now)) / 8 ≤ length c.args.symbols.now) half c.requires.2 in
+    (subst (λ (r : ℕ). Rows r c.args.period c.args.c1.now) half c.requires.0, sound, none, pairs_room c.args.start c.args.octets.now sound none _ enough)
 
 pub returns-then-start-eq0 : goal.returns-then-start-eq0
 returns-then-start-eq0 c =
-    let start = c in
-    let half : start.args.rate ≡ 1 = c.if-rate-ne1.false in
-    subst (λ (r : ℕ). Run r start.args.start (bits_of start.args.octets.now) c.pairs_in.result c.pairs_in.new.symbols) (sym half) c.pairs_in.ensures
+    let half : c.args.rate ≡ 1 = c.if-rate-ne1.false in
+    subst (λ (r : ℕ). Run r c.args.start (bits_of c.args.octets.now) c.pairs_in.result c.pairs_in.new.symbols) (sym half) c.pairs_in.ensures
 
 pub loop-at-init : goal.loop-at-init
 loop-at-init c =
-    let start = c in
-    going_first start.args.rate start.args.octets.now start.args.symbols.now start.args.start start.requires.1
+    going_first c.args.rate c.args.octets.now c.args.symbols.now c.args.start c.requires.1
 
 pub one_in-at-requires : goal.one_in-at-requires
 one_in-at-requires c =
-    let start = c in
     let at = c.loop-at in
-    (start.requires.0, going_underway start.args.rate start.args.octets.now start.args.symbols.now start.args.start at.symbols at.at at.invariant start.requires.2, c.loop-at-test.true)
+    (c.requires.0, going_underway c.args.rate c.args.octets.now c.args.symbols.now c.args.start at.symbols at.at at.invariant c.requires.2, c.loop-at-test.true)
 
 pub loop-at-smaller : goal.loop-at-smaller
 loop-at-smaller c = omega (arith, c.one_in-at.ensures.further, c.loop-at-test.true)
 
 pub loop-at-preserved : goal.loop-at-preserved
 loop-at-preserved c =
-    let start = c in
     let at = c.loop-at in
-    going_on start.args.rate start.args.octets.now start.args.symbols.now start.args.start at.symbols at.at at.invariant _ c.one_in-at.result c.one_in-at.ensures
+    going_on c.args.rate c.args.octets.now c.args.symbols.now c.args.start at.symbols at.at at.invariant _ c.one_in-at.result c.one_in-at.ensures
 
 pub shape_of-symbols : goal.shape_of-symbols
 shape_of-symbols c = c.loop-at.invariant.long
 
 pub returns : goal.returns
 returns c =
-    let start = c in
     let at = c.loop-at in
-    going_over start.args.rate start.args.octets.now start.args.symbols.now start.args.start at.symbols at.at at.invariant (omega (arith, c.loop-at-test.false))
+    going_over c.args.rate c.args.octets.now c.args.symbols.now c.args.start at.symbols at.at at.invariant (omega (arith, c.loop-at-test.false))

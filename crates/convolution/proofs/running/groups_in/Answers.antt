@@ -8,14 +8,12 @@ group_of-group-requires c = (c.requires.0.legal, c.requires.3)
 
 pub loop-at-init : goal.loop-at-init
 loop-at-init c =
-    let start = c in
-    going_first start.args.rate start.args.octets.now start.args.symbols.now start.args.start start.requires.1
+    going_first c.args.rate c.args.octets.now c.args.symbols.now c.args.start c.requires.1
 
 pub turn-at-requires : goal.turn-at-requires
 turn-at-requires c =
-    let start = c in
     let at = c.loop-at in
-    let under = going_underway start.args.rate start.args.octets.now start.args.symbols.now start.args.start at.symbols at.at at.invariant start.requires.2 in
+    let under = going_underway c.args.rate c.args.octets.now c.args.symbols.now c.args.start at.symbols at.at at.invariant c.requires.2 in
     (c.requires.0, c.group_of-group.ensures, under, c.loop-at-test.true)
 
 pub loop-at-smaller : goal.loop-at-smaller
@@ -23,15 +21,13 @@ loop-at-smaller c = omega (arith, c.turn-at.ensures.further, c.loop-at-test.true
 
 pub loop-at-preserved : goal.loop-at-preserved
 loop-at-preserved c =
-    let start = c in
     let at = c.loop-at in
-    going_on start.args.rate start.args.octets.now start.args.symbols.now start.args.start at.symbols at.at at.invariant _ c.turn-at.result c.turn-at.ensures
+    going_on c.args.rate c.args.octets.now c.args.symbols.now c.args.start at.symbols at.at at.invariant _ c.turn-at.result c.turn-at.ensures
 
 pub shape_of-symbols : goal.shape_of-symbols
 shape_of-symbols c = c.loop-at.invariant.long
 
 pub returns : goal.returns
 returns c =
-    let start = c in
     let at = c.loop-at in
-    going_over start.args.rate start.args.octets.now start.args.symbols.now start.args.start at.symbols at.at at.invariant (omega (arith, c.loop-at-test.false))
+    going_over c.args.rate c.args.octets.now c.args.symbols.now c.args.start at.symbols at.at at.invariant (omega (arith, c.loop-at-test.false))

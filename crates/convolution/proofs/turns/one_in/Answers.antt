@@ -5,18 +5,15 @@ use Rattle.convolution.proofs.turns.one_in.Goals as goal
 
 pub write_ready-requires : goal.write_ready-requires
 write_ready-requires c =
-    let start = c in
     let full = c.octet_in-full in
-    (full.ensures.holds, octet_room start.args.rate start.args.octets.now start.args.symbols.now start.args.at start.requires.1 start.requires.2 full.result full.ensures)
+    (full.ensures.holds, octet_room c.args.rate c.args.octets.now c.args.symbols.now c.args.at c.requires.1 c.requires.2 full.result full.ensures)
 
 pub overflow_add-result-2 : goal.overflow_add-result-2
 overflow_add-result-2 c =
-    let start = c in
     let full = c.octet_in-full in
-    omega (arith, octet_room start.args.rate start.args.octets.now start.args.symbols.now start.args.at start.requires.1 start.requires.2 full.result full.ensures)
+    omega (arith, octet_room c.args.rate c.args.octets.now c.args.symbols.now c.args.at c.requires.1 c.requires.2 full.result full.ensures)
 
 pub returns : goal.returns
 returns c =
-    let start = c in
     let full = c.octet_in-full in
-    octet_turned start.args.rate start.args.octets.now start.args.symbols.now start.args.at start.requires.1 start.requires.2 full.result full.ensures _ c.kept-next.result c.write_ready.ensures c.kept-next.ensures
+    octet_turned c.args.rate c.args.octets.now c.args.symbols.now c.args.at c.requires.1 c.requires.2 full.result full.ensures _ c.kept-next.result c.write_ready.ensures c.kept-next.ensures

@@ -7,8 +7,7 @@ overflow_sub-octets c = omega (arith, c.requires.3)
 
 pub group_in-requires : goal.group_in-requires
 group_in-requires c =
-    let start = c in
-    (start.requires.1, start.requires.2, c.if-flow-eq0.true, omega (arith, c.if-octets-at.true, start.requires.3))
+    (c.requires.1, c.requires.2, c.if-flow-eq0.true, omega (arith, c.if-octets-at.true, c.requires.3))
 
 pub shape_of-symbols-then-octets-at : goal.shape_of-symbols-then-octets-at
 shape_of-symbols-then-octets-at c = c.group_in.ensures.long
@@ -18,8 +17,7 @@ returns-then-octets-at c = c.group_in.ensures
 
 pub one_in-requires : goal.one_in-requires
 one_in-requires c =
-    let start = c in
-    (start.requires.0, start.requires.2, start.requires.3)
+    (c.requires.0, c.requires.2, c.requires.3)
 
 pub shape_of-symbols : goal.shape_of-symbols
 shape_of-symbols c = c.one_in.ensures.long

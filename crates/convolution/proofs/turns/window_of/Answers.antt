@@ -25,19 +25,17 @@ overflow_add-window-in-loop-k c =
 
 pub loop-k-preserved : goal.loop-k-preserved
 loop-k-preserved c =
-    let start = c in
     let at = c.loop-k in
-    let octets = start.args.octets.now in
-    let octet = get_or octets (start.args.at + at.k) 0 in
-    let small : octet < 256 = omega (arith, c.type_inv.octets (start.args.at + at.k)) in (
+    let octets = c.args.octets.now in
+    let octet = get_or octets (c.args.at + at.k) 0 in
+    let small : octet < 256 = omega (arith, c.type_inv.octets (c.args.at + at.k)) in (
       omega arith,
-      window_above octets start.args.at at.k at.window octet (omega arith) small refl ∙ at.invariant.1,
-      window-below octets start.args.at at.k at.window octet (omega arith) small refl at.invariant.2,
+      window_above octets c.args.at at.k at.window octet (omega arith) small refl ∙ at.invariant.1,
+      window-below octets c.args.at at.k at.window octet (omega arith) small refl at.invariant.2,
     )
 
 pub returns : goal.returns
 returns c =
-    let start = c in
     let at = c.loop-k in
-    let all : at.k ≡ start.args.n = omega arith in
-    subst (λ (n : ℕ). (at.window / 2 ^ (8 * n) ≡ start.args.register) × (low_bits (8 * n) at.window ≡ bits_of (take n (drop start.args.at start.args.octets.now)))) all (at.invariant.1, at.invariant.2)
+    let all : at.k ≡ c.args.n = omega arith in
+    subst (λ (n : ℕ). (at.window / 2 ^ (8 * n) ≡ c.args.register) × (low_bits (8 * n) at.window ≡ bits_of (take n (drop c.args.at c.args.octets.now)))) all (at.invariant.1, at.invariant.2)

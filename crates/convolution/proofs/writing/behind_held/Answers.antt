@@ -8,10 +8,8 @@ returns-then-holds-eq0 c = behind_none c.args.held c.args.holds c.args.symbols c
 
 pub overflow_add-result : goal.overflow_add-result
 overflow_add-result c =
-    let start = c in
-    omega (arith, behind_fits start.args.held start.args.holds start.args.symbols start.args.n start.requires.0 start.requires.1 start.requires.2 start.requires.3)
+    omega (arith, behind_fits c.args.held c.args.holds c.args.symbols c.args.n c.requires.0 c.requires.1 c.requires.2 c.requires.3)
 
 pub returns : goal.returns
 returns c =
-    let start = c in
-    behind_held start.args.held start.args.holds start.args.symbols start.args.n start.requires.0 start.requires.1 start.requires.2 start.requires.3
+    behind_held c.args.held c.args.holds c.args.symbols c.args.n c.requires.0 c.requires.1 c.requires.2 c.requires.3

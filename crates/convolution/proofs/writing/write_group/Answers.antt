@@ -7,17 +7,14 @@ use Rattle.convolution.proofs.writing.write_group.Goals as goal
 
 pub returns-then-n-eq6 : goal.returns-then-n-eq6
 returns-then-n-eq6 c =
-    let start = c in
-    put_same start.args.symbols.now _ start.args.at start.args.number start.args.n 6 c.if-n-eq6.true c.write_number.ensures
+    put_same c.args.symbols.now _ c.args.at c.args.number c.args.n 6 c.if-n-eq6.true c.write_number.ensures
 
 pub write_number-requires-2 : goal.write_number-requires-2
 write_number-requires-2 c =
-    let start = c in
-    let eight : start.args.n ≡ 8 = ⊎_elim (λ e. absurd (c.if-n-eq6.false e)) (λ e. e) start.requires.0 in
-    (omega arith, omega (arith, start.requires.1))
+    let eight : c.args.n ≡ 8 = ⊎_elim (λ e. absurd (c.if-n-eq6.false e)) (λ e. e) c.requires.0 in
+    (omega arith, omega (arith, c.requires.1))
 
 pub returns : goal.returns
 returns c =
-    let start = c in
-    let eight : start.args.n ≡ 8 = ⊎_elim (λ e. absurd (c.if-n-eq6.false e)) (λ e. e) start.requires.0 in
-    put_same start.args.symbols.now _ start.args.at start.args.number start.args.n 8 eight c.write_number-2.ensures
+    let eight : c.args.n ≡ 8 = ⊎_elim (λ e. absurd (c.if-n-eq6.false e)) (λ e. e) c.requires.0 in
+    put_same c.args.symbols.now _ c.args.at c.args.number c.args.n 8 eight c.write_number-2.ensures

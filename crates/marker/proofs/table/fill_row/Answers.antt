@@ -8,17 +8,15 @@ loop-low-init c = (omega arith, refl, filled_upto _ (omega arith) c.requires.2)
 
 pub overflow_add-table-in-loop-low-2 : goal.overflow_add-table-in-loop-low-2
 overflow_add-table-in-loop-low-2 c =
-    let given = c in
     let low = c.loop-low.low in
-    omega (arith, octet_most _ (row-sum given.args.row low (omega arith) (omega arith) given.requires.1))
+    omega (arith, octet_most _ (row-sum c.args.row low (omega arith) (omega arith) c.requires.1))
 
 pub loop-low-preserved : goal.loop-low-preserved
 loop-low-preserved c =
-    let given = c in
     let loop = c.loop-low in
-    let sum = row-sum given.args.row loop.low (omega arith) (omega arith) given.requires.1 in
+    let sum = row-sum c.args.row loop.low (omega arith) (omega arith) c.requires.1 in
     let F = filled_turn _ _ _ _ _ (omega arith) sum loop.invariant.2 in
-    (omega arith, F.size ∙ sym given.requires.2.size, filled_upto _ (omega arith) F)
+    (omega arith, F.size ∙ sym c.requires.2.size, filled_upto _ (omega arith) F)
 
 pub returns : goal.returns
 returns c = filled_upto _ (omega arith) c.loop-low.invariant.2

@@ -7,12 +7,8 @@ use Rattle.marker.proofs.testing.nearer_in.Goals as goal
 
 pub returns : goal.returns
 returns c =
-    let third = c in
-    let second = third in
-    let first = second in
-    let known = first in
-    let octets = known.args.octets.now in
+    let octets = c.args.octets.now in
     let window : c.front_entered-3.result ≡ word 32 octets 0 =
-    four-octets octets _ _ _ _ (λ i. (known.type_inv.octets i).fits) first.front_entered.ensures
-    second.front_entered-half.ensures third.front_entered-2.ensures c.front_entered-3.ensures in
+    four-octets octets _ _ _ _ (λ i. (c.type_inv.octets i).fits) c.front_entered.ensures
+    c.front_entered-half.ensures c.front_entered-2.ensures c.front_entered-3.ensures in
     named_at octets 0 (rw window (word-wrong octets 0)) c.nearer_form.ensures

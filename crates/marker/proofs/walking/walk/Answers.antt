@@ -30,10 +30,8 @@ loop-b-init c = (omega arith, omega arith, refl, c.octets.invariant.4)
 
 pub returns-then-is_near : goal.returns-then-is_near
 returns-then-is_near c =
-    let entered = c in
-    let turn = entered in
     rw c.found.ensures
-    (found _ _ turn.loop-b-test.true turn.loop-b.invariant.3 entered.bit_entered-window.ensures c.if-looked-budget.false (refl, refl)
+    (found _ _ c.loop-b-test.true c.loop-b.invariant.3 c.bit_entered-window.ensures c.if-looked-budget.false (refl, refl)
     (leb-true _ _ (sym c.is_near.ensures ∙ c.if-is_near.true)) (omega arith))
 
 pub loop-b-preserved : goal.loop-b-preserved
@@ -41,9 +39,7 @@ loop-b-preserved c = (
   omega arith,
   omega arith,
   refl,
-  let entered = c in
-      let turn = entered in
-      onward _ _ turn.loop-b-test.true turn.loop-b.invariant.3 entered.bit_entered-window.ensures c.if-looked-budget.false (refl, refl)
+  onward _ _ c.loop-b-test.true c.loop-b.invariant.3 c.bit_entered-window.ensures c.if-looked-budget.false (refl, refl)
       (leb-false _ _ (sym c.is_near.ensures ∙ c.if-is_near.false)),
 )
 

@@ -13,7 +13,7 @@ use Rattle.reed_solomon.proofs.decoder.decode.Goals as goal
 use Rattle.reed_solomon.proofs.decoder.decode.Goals.{In_default}
 
 -- every check of a parameter has passed
-legal : (c : In_default) → let start = c in FirstOf (decode_parameters start.args.e start.args.depth start.args.fill start.args.s (length start.args.block.now) (length start.args.frame.now)) 0
+legal : (c : In_default) → FirstOf (decode_parameters c.args.e c.args.depth c.args.fill c.args.s (length c.args.block.now) (length c.args.frame.now)) 0
 legal c = search passed
 
 -- refused for a parameter
@@ -44,11 +44,10 @@ slice_bounds-copy_front-end c = sym (length-take-le _ _ (coded_room _ _ _ _ _ _ 
 
 pub repair_words-repair-requires : goal.repair_words-repair-requires
 repair_words-repair-requires c =
-    let passing = legal (goal.at.repair_words-repair-requires c).In_default in
-    let start = c in (
-      fitting _ _ _ _ _ (length start.args.frame.now) passing,
+    let passing = legal (goal.at.repair_words-repair-requires c).In_default in (
+      fitting _ _ _ _ _ (length c.args.frame.now) passing,
       omega arith,
-      checks_of_words _ _ _ _ _ start.args.frame.now _ passing (search octets_known) c.front_rows-rows.ensures,
+      checks_of_words _ _ _ _ _ c.args.frame.now _ passing (search octets_known) c.front_rows-rows.ensures,
     )
 
 pub slice_bounds-repaired-end : goal.slice_bounds-repaired-end

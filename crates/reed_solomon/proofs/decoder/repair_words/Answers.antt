@@ -10,14 +10,13 @@ use Rattle.reed_solomon.proofs.decoder.repair_words.Goals.{Else-not-found}
 -- the word was found, and few of its symbols differ
 few : (c : Else-not-found) → c.repair_word-word.result.count ≤ 16
 few c =
-    let start = c in
     let at = c.loop-w in
     let word = c.repair_word-word in
     omega (
       arith,
-      few_differ start.args.e start.args.depth start.args.fill start.args.s start.args.block.now at.w _ word.result.count (word.ensures.when_found c.if-not-found.false),
-      start.requires.0.allowance,
-      (strength_bounds _ start.requires.0.strength).1,
+      few_differ c.args.e c.args.depth c.args.fill c.args.s c.args.block.now at.w _ word.result.count (word.ensures.when_found c.if-not-found.false),
+      c.requires.0.allowance,
+      (strength_bounds _ c.requires.0.strength).1,
     )
 
 pub loop-w-init : goal.loop-w-init
@@ -28,20 +27,18 @@ bounds-rows-w c = omega (arith, c.requires.0.deep)
 
 pub repair_word-word-requires : goal.repair_word-word-requires
 repair_word-word-requires c =
-    let start = c in
-    (start.requires.0, omega (arith, start.requires.1), omega arith, start.requires.2 c.loop-w.w (omega arith))
+    (c.requires.0, omega (arith, c.requires.1), omega arith, c.requires.2 c.loop-w.w (omega arith))
 
 pub shape_of-frame-then-not-found : goal.shape_of-frame-then-not-found
 shape_of-frame-then-not-found c = c.repair_word-word.ensures.size ∙ c.loop-w.invariant.1
 
 pub returns-then-not-found : goal.returns-then-not-found
 returns-then-not-found c =
-    let start = c in
     let at = c.loop-w in
     let word = c.repair_word-word in
     record {
       reached = at.invariant.0;
-      sofar = sofar_stops start.args.e start.args.depth start.args.fill start.args.s start.args.block.now at.frame at.counts at.total at.w word.result.found word.result.count _ (omega arith) at.invariant.2 word.ensures;
+      sofar = sofar_stops c.args.e c.args.depth c.args.fill c.args.s c.args.block.now at.frame at.counts at.total at.w word.result.found word.result.count _ (omega arith) at.invariant.2 word.ensures;
       stopped = λ h. word.ensures.when_not c.if-not-found.true;
       size = word.ensures.size ∙ at.invariant.1;
     }
@@ -57,12 +54,11 @@ overflow_add-total c = omega (arith, few c, c.requires.0.deep)
 
 pub loop-w-preserved : goal.loop-w-preserved
 loop-w-preserved c =
-    let start = c in
     let at = c.loop-w in
     let word = c.repair_word-word in (
       omega arith,
       word.ensures.size ∙ at.invariant.1,
-      sofar_turn start.args.e start.args.depth start.args.fill start.args.s start.args.block.now at.frame at.counts at.total at.w word.result.found word.result.count _ (omega arith) at.invariant.2 word.ensures start.requires.0.deep c.if-not-found.false,
+      sofar_turn c.args.e c.args.depth c.args.fill c.args.s c.args.block.now at.frame at.counts at.total at.w word.result.found word.result.count _ (omega arith) at.invariant.2 word.ensures c.requires.0.deep c.if-not-found.false,
       omega (arith, few c),
     )
 

@@ -30,6 +30,5 @@ slice_bounds-find_errors-end c = sym (length-take-le _ _ (omega (arith, c.differ
 
 pub returns : goal.returns
 returns c =
-    let start = c in
-    word_outcome start.args.e start.args.depth start.args.fill start.args.s start.args.block.now start.args.w start.requires.0 _ _ start.requires.2 c.difference-rest.ensures
+    word_outcome c.args.e c.args.depth c.args.fill c.args.s c.args.block.now c.args.w c.requires.0 _ _ c.requires.2 c.difference-rest.ensures
     c.find_errors.result.found c.find_errors.result.count c.find_errors.result.errors c.find_errors.ensures

@@ -6,10 +6,10 @@ use Rattle.reed_solomon.proofs.ChangeLists.{change_absent, change_put}
 use Rattle.reed_solomon.proofs.listing.put_change.Goals as goal
 
 pub returns-then-old-new : goal.returns-then-old-new
-returns-then-old-new c = let start = c in change_absent start.args.at start.args.old start.args.new start.args.entries start.args.list.now c.if-old-new.true
+returns-then-old-new c = change_absent c.args.at c.args.old c.args.new c.args.entries c.args.list.now c.if-old-new.true
 
 pub returns : goal.returns
-returns c = let start = c in change_put start.args.at start.args.old start.args.new start.args.entries start.args.list.now c.if-old-new.false (omega arith) _ refl
+returns c = change_put c.args.at c.args.old c.args.new c.args.entries c.args.list.now c.if-old-new.false (omega arith) _ refl
 
 pub bounds-list-first-2 : goal.bounds-list-first-2
 bounds-list-first-2 c = simp length-set (omega arith)

@@ -9,10 +9,9 @@ use Rattle.reed_solomon.proofs.listing.put_changes.Goals as goal
 
 pub returns : goal.returns
 returns c =
-    let start = c in
     let turn = c.loop-at in
-    let all : turn.at ≡ length start.args.block.now = omega (arith, turn.invariant.0) in
-    subst (λ (n : ℕ). Listed start.args.block.now start.args.mended.now start.args.list.now n turn.entries turn.list) all turn.invariant.1
+    let all : turn.at ≡ length c.args.block.now = omega (arith, turn.invariant.0) in
+    subst (λ (n : ℕ). Listed c.args.block.now c.args.mended.now c.args.list.now n turn.entries turn.list) all turn.invariant.1
 
 pub loop-at-init : goal.loop-at-init
 loop-at-init c = (omega arith, listed_start _ _ _)
@@ -22,10 +21,9 @@ run_end-end-requires c = (omega arith, c.requires.0)
 
 pub put_run-more-requires : goal.put_run-more-requires
 put_run-more-requires c =
-    let start = c in
     let turn = c.loop-at in
     let end = c.run_end-end in
-    (omega (arith, end.ensures.0), end.ensures.1, omega (arith, end.ensures.1, start.requires.0), start.requires.1, turn.invariant.1.size ∙ start.requires.2, turn.invariant.1.few)
+    (omega (arith, end.ensures.0), end.ensures.1, omega (arith, end.ensures.1, c.requires.0), c.requires.1, turn.invariant.1.size ∙ c.requires.2, turn.invariant.1.few)
 
 pub loop-at-smaller : goal.loop-at-smaller
 loop-at-smaller c = omega (arith, c.run_end-end.ensures.0)

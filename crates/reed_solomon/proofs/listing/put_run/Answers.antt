@@ -9,38 +9,34 @@ use Rattle.reed_solomon.proofs.listing.put_run.Goals as goal
 
 pub loop-at-preserved : goal.loop-at-preserved
 loop-at-preserved c =
-    let start = c in
     let turn = c.loop-at in
     let put = c.put_change-more in (
       omega (arith, turn.invariant.0),
       omega arith,
-      omega (arith, turn.invariant.2, put.ensures.entered, change_most turn.at (get_or start.args.block.now turn.at 0) (get_or start.args.mended.now turn.at 0)),
+      omega (arith, turn.invariant.2, put.ensures.entered, change_most turn.at (get_or c.args.block.now turn.at 0) (get_or c.args.mended.now turn.at 0)),
       put.ensures.size ∙ turn.invariant.3,
-      λ before L. listed_turn start.args.block.now start.args.mended.now before start.requires.3 turn.at turn.listed turn.list put.result _
-          (omega (arith, start.requires.1)) put.ensures (turn.invariant.4 before L),
+      λ before L. listed_turn c.args.block.now c.args.mended.now before c.requires.3 turn.at turn.listed turn.list put.result _
+          (omega (arith, c.requires.1)) put.ensures (turn.invariant.4 before L),
     )
 
 pub run_alike-requires : goal.run_alike-requires
-run_alike-requires c = let start = c in (start.requires.0, start.requires.1, omega (arith, start.requires.3), start.requires.2)
+run_alike-requires c = (c.requires.0, c.requires.1, omega (arith, c.requires.3), c.requires.2)
 
 pub returns-then-run_alike : goal.returns-then-run_alike
 returns-then-run_alike c =
-    let start = c in
-    λ before L. listed_over start.args.block.now start.args.mended.now before start.requires.3 start.args.from start.args.end start.args.entries start.args.list.now
-    start.requires.0 start.requires.1 (c.run_alike.ensures c.if-run_alike.true) L
+    λ before L. listed_over c.args.block.now c.args.mended.now before c.requires.3 c.args.from c.args.end c.args.entries c.args.list.now
+    c.requires.0 c.requires.1 (c.run_alike.ensures c.if-run_alike.true) L
 
 pub loop-at-init : goal.loop-at-init
-loop-at-init c = let start = c in (omega arith, start.requires.0, start.requires.5, refl, λ before L. L)
+loop-at-init c = (omega arith, c.requires.0, c.requires.5, refl, λ before L. L)
 
 pub put_change-more-requires : goal.put_change-more-requires
 put_change-more-requires c =
-    let start = c in
     let turn = c.loop-at in
-    (omega (arith, start.requires.2), turn.invariant.2, omega (arith, turn.invariant.2, turn.invariant.3, start.requires.1, start.requires.4))
+    (omega (arith, c.requires.2), turn.invariant.2, omega (arith, turn.invariant.2, turn.invariant.3, c.requires.1, c.requires.4))
 
 pub returns : goal.returns
 returns c =
-    let start = c in
     let turn = c.loop-at in
-    let all : turn.at ≡ start.args.end = omega (arith, turn.invariant.1) in
-    λ before L. subst (λ (n : ℕ). Listed start.args.block.now start.args.mended.now before n turn.listed turn.list) all (turn.invariant.4 before L)
+    let all : turn.at ≡ c.args.end = omega (arith, turn.invariant.1) in
+    λ before L. subst (λ (n : ℕ). Listed c.args.block.now c.args.mended.now before n turn.listed turn.list) all (turn.invariant.4 before L)

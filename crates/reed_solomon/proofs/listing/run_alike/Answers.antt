@@ -15,19 +15,17 @@ loop-k-init c = (omega arith, c.if-end-from-ne16.false, λ y at l h. absurd (ome
 
 pub loop-k-preserved : goal.loop-k-preserved
 loop-k-preserved c =
-    let start = c in
     let turn = c.loop-k in (
       omega arith,
       turn.invariant.1,
       λ y. elim c.if-block-from.branch [
         | then-block-from w ↦ let was = w.alike-is in let z : ◌≡◌ {A = ℕ} 0 1 = cc in absurd (omega arith)
-        | else-block-from w ↦ alike_turn start.args.block.now start.args.mended.now start.args.from turn.k (turn.invariant.2 (sym w.alike-is ∙ y)) w.if-block-from.false
+        | else-block-from w ↦ alike_turn c.args.block.now c.args.mended.now c.args.from turn.k (turn.invariant.2 (sym w.alike-is ∙ y)) w.if-block-from.false
       ],
     )
 
 pub returns : goal.returns
 returns c =
-    let start = c in
     let turn = c.loop-k in
-    let end : start.args.from + turn.k ≡ start.args.end = omega arith in
-    λ y. subst (λ (n : ℕ). Alike start.args.from n start.args.block.now start.args.mended.now) end (turn.invariant.2 y)
+    let end : c.args.from + turn.k ≡ c.args.end = omega arith in
+    λ y. subst (λ (n : ℕ). Alike c.args.from n c.args.block.now c.args.mended.now) end (turn.invariant.2 y)

@@ -14,14 +14,14 @@ use Rattle.reed_solomon.proofs.salvager.salvage.Goals as goal
 use Rattle.reed_solomon.proofs.salvager.salvage.Goals.{In_default}
 
 -- every check of a parameter has passed
-legal : (c : In_default) → let start = c in
-    FirstOf (salvage_order start.args.e start.args.depth start.args.fill start.args.s (length start.args.block.now) (length start.args.frame.now) (length start.args.list.now)) 0
+legal : (c : In_default) →
+    FirstOf (salvage_order c.args.e c.args.depth c.args.fill c.args.s (length c.args.block.now) (length c.args.frame.now) (length c.args.list.now)) 0
 legal c = search passed
 
 -- decode's too
-decodes : (c : In_default) → let start = c in
-    FirstOf (decode_parameters start.args.e start.args.depth start.args.fill start.args.s (length start.args.block.now) (length start.args.frame.now)) 0
-decodes c = let start = c in salvage_decodes _ _ _ _ _ _ (length start.args.list.now) (legal c)
+decodes : (c : In_default) →
+    FirstOf (decode_parameters c.args.e c.args.depth c.args.fill c.args.s (length c.args.block.now) (length c.args.frame.now)) 0
+decodes c = salvage_decodes _ _ _ _ _ _ (length c.args.list.now) (legal c)
 
 pub returns-in-Refused : goal.returns-in-Refused
 returns-in-Refused c = salvage_refuses _ _ _ _ _ _ _ _ _ c.in-Refused.is c.salvage_parameters-verdict.ensures _ _ _ _ c.nothing_salvaged.ensures
@@ -33,8 +33,7 @@ returns-then-has_checks c =
 
 pub returns : goal.returns
 returns c =
-    let start = c in
-    salvages _ _ _ _ start.args.block.now start.args.frame.now start.args.list.now (legal (goal.at.returns c).In_default) _ _ _ c.salvage_words-salvaged.ensures.0 c.salvage_words-salvaged.ensures.1 _ _ _ c.copy_front-2.ensures c.put_changes-entries.ensures
+    salvages _ _ _ _ c.args.block.now c.args.frame.now c.args.list.now (legal (goal.at.returns c).In_default) _ _ _ c.salvage_words-salvaged.ensures.0 c.salvage_words-salvaged.ensures.1 _ _ _ c.copy_front-2.ensures c.put_changes-entries.ensures
 
 pub front_rows-rows-requires : goal.front_rows-rows-requires
 front_rows-rows-requires c = let L = enter_legal _ _ _ _ _ _ (decodes c) in (L.0, L.1, L.2, (coded_room _ _ _ _ _ _ (decodes c)).2)
@@ -50,24 +49,23 @@ as_received-requires c = (coded_room _ _ _ _ _ _ (decodes (goal.at.as_received-r
 
 pub salvage_words-salvaged-requires : goal.salvage_words-salvaged-requires
 salvage_words-salvaged-requires c =
-    let passing = decodes (goal.at.salvage_words-salvaged-requires c).In_default in
-    let start = c in (
-      fitting _ _ _ _ _ (length start.args.frame.now) passing,
+    let passing = decodes (goal.at.salvage_words-salvaged-requires c).In_default in (
+      fitting _ _ _ _ _ (length c.args.frame.now) passing,
       omega arith,
-      checks_of_words _ _ _ _ _ start.args.frame.now _ passing (search octets_known) c.front_rows-rows.ensures,
+      checks_of_words _ _ _ _ _ c.args.frame.now _ passing (search octets_known) c.front_rows-rows.ensures,
     )
 
 pub slice_bounds-mended-end : goal.slice_bounds-mended-end
-slice_bounds-mended-end c = let start = c in frame_fits _ _ _ _ start.args.block.now start.args.frame.now start.args.list.now (legal (goal.at.slice_bounds-mended-end c).In_default) _ _ _ c.salvage_words-salvaged.ensures.0 c.salvage_words-salvaged.ensures.1
+slice_bounds-mended-end c = frame_fits _ _ _ _ c.args.block.now c.args.frame.now c.args.list.now (legal (goal.at.slice_bounds-mended-end c).In_default) _ _ _ c.salvage_words-salvaged.ensures.0 c.salvage_words-salvaged.ensures.1
 
 pub slice_bounds-copy_front-end-2 : goal.slice_bounds-copy_front-end-2
-slice_bounds-copy_front-end-2 c = let start = c in sym (length-take-le _ _ (frame_fits _ _ _ _ start.args.block.now start.args.frame.now start.args.list.now (legal (goal.at.slice_bounds-copy_front-end-2 c).In_default) _ _ _ c.salvage_words-salvaged.ensures.0 c.salvage_words-salvaged.ensures.1))
+slice_bounds-copy_front-end-2 c = sym (length-take-le _ _ (frame_fits _ _ _ _ c.args.block.now c.args.frame.now c.args.list.now (legal (goal.at.slice_bounds-copy_front-end-2 c).In_default) _ _ _ c.salvage_words-salvaged.ensures.0 c.salvage_words-salvaged.ensures.1))
 
 pub slice_bounds-mended-end-2 : goal.slice_bounds-mended-end-2
-slice_bounds-mended-end-2 c = let start = c in block_fits _ _ _ _ start.args.block.now start.args.frame.now start.args.list.now (legal (goal.at.slice_bounds-mended-end-2 c).In_default) _ _ _ c.salvage_words-salvaged.ensures.0 c.salvage_words-salvaged.ensures.1
+slice_bounds-mended-end-2 c = block_fits _ _ _ _ c.args.block.now c.args.frame.now c.args.list.now (legal (goal.at.slice_bounds-mended-end-2 c).In_default) _ _ _ c.salvage_words-salvaged.ensures.0 c.salvage_words-salvaged.ensures.1
 
 pub slice_bounds-put_changes-end : goal.slice_bounds-put_changes-end
-slice_bounds-put_changes-end c = let start = c in sym (length-take-le _ _ (block_fits _ _ _ _ start.args.block.now start.args.frame.now start.args.list.now (legal (goal.at.slice_bounds-put_changes-end c).In_default) _ _ _ c.salvage_words-salvaged.ensures.0 c.salvage_words-salvaged.ensures.1))
+slice_bounds-put_changes-end c = sym (length-take-le _ _ (block_fits _ _ _ _ c.args.block.now c.args.frame.now c.args.list.now (legal (goal.at.slice_bounds-put_changes-end c).In_default) _ _ _ c.salvage_words-salvaged.ensures.0 c.salvage_words-salvaged.ensures.1))
 
 pub put_changes-entries-requires : goal.put_changes-entries-requires
-put_changes-entries-requires c = let start = c in changes_room _ _ _ _ start.args.block.now start.args.frame.now start.args.list.now (legal (goal.at.put_changes-entries-requires c).In_default) _ _ _ c.salvage_words-salvaged.ensures.0 c.salvage_words-salvaged.ensures.1
+put_changes-entries-requires c = changes_room _ _ _ _ c.args.block.now c.args.frame.now c.args.list.now (legal (goal.at.put_changes-entries-requires c).In_default) _ _ _ c.salvage_words-salvaged.ensures.0 c.salvage_words-salvaged.ensures.1

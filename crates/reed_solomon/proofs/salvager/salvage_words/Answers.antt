@@ -6,12 +6,11 @@ use Rattle.reed_solomon.proofs.salvager.salvage_words.Goals as goal
 
 pub loop-w-preserved : goal.loop-w-preserved
 loop-w-preserved c =
-    let start = c in
     let at = c.loop-w in
     let word = c.salvage_word-word in (
       omega arith,
       word.ensures.size ∙ at.invariant.1,
-      words_turn start.args.e start.args.depth start.args.fill start.args.s start.args.block.now at.w at.marks at.counts at.mended word.result.mark word.result.count _ (omega arith) start.requires.0.deep at.invariant.2 word.ensures,
+      words_turn c.args.e c.args.depth c.args.fill c.args.s c.args.block.now at.w at.marks at.counts at.mended word.result.mark word.result.count _ (omega arith) c.requires.0.deep at.invariant.2 word.ensures,
     )
 
 pub loop-w-init : goal.loop-w-init
@@ -22,8 +21,7 @@ bounds-rows-w c = omega (arith, c.requires.0.deep)
 
 pub salvage_word-word-requires : goal.salvage_word-word-requires
 salvage_word-word-requires c =
-    let start = c in
-    (start.requires.0, omega (arith, start.requires.1), omega arith, start.requires.2 c.loop-w.w (omega arith))
+    (c.requires.0, omega (arith, c.requires.1), omega arith, c.requires.2 c.loop-w.w (omega arith))
 
 pub bounds-marks-w : goal.bounds-marks-w
 bounds-marks-w c = omega (arith, c.requires.0.deep)

@@ -12,15 +12,13 @@ loop-i-init c = (omega arith, refl, refl, halfway_none _ _ _ c.requires.2)
 pub overflow_cast-at : goal.overflow_cast-at
 overflow_cast-at c =
     let l = c.loop-i in
-    let start = c in
-    let octet = ahead-at _ (get_or start.args.rows.now l.i []) _ _ _ c.turned.ensures.0 (start.requires.3.at l.i (omega arith) (omega arith) l.at l.invariant.3.register) in
+    let octet = ahead-at _ (get_or c.args.rows.now l.i []) _ _ _ c.turned.ensures.0 (c.requires.3.at l.i (omega arith) (omega arith) l.at l.invariant.3.register) in
     omega (arith, octet.small)
 
 pub loop-i-preserved : goal.loop-i-preserved
 loop-i-preserved c =
     let l = c.loop-i in
-    let start = c in
-    let octet = ahead-at _ (get_or start.args.rows.now l.i []) _ _ _ c.turned.ensures.0 (start.requires.3.at l.i (omega arith) (omega arith) l.at l.invariant.3.register) in
+    let octet = ahead-at _ (get_or c.args.rows.now l.i []) _ _ _ c.turned.ensures.0 (c.requires.3.at l.i (omega arith) (omega arith) l.at l.invariant.3.register) in
     (omega arith, refl, simp length-set l.invariant.2, halfway_more _ _ _ _ _ _ (omega arith) l.invariant.3 octet)
 
 pub shape_of-data : goal.shape_of-data

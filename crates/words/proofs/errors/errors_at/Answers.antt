@@ -4,6 +4,4 @@ use Rattle.words.proofs.errors.errors_at.Goals as goal
 
 pub returns : goal.returns
 returns c =
-    let shifted = c in
-    let located = shifted in
-    errors_are located.args.s.now _ _ _ _ _ _ _ _ _ _ located.locator_powers-locators.ensures shifted.divided-q.ensures shifted.locator_powers-shift.ensures c.times-divisor.ensures c.inverses-inverse.ensures c.times.ensures
+    errors_are c.args.s.now _ _ _ _ _ _ _ _ _ _ c.locator_powers-locators.ensures c.divided-q.ensures c.locator_powers-shift.ensures c.times-divisor.ensures c.inverses-inverse.ensures c.times.ensures

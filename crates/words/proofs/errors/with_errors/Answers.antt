@@ -7,8 +7,7 @@ use Rattle.words.proofs.errors.with_errors.Goals as goal
 
 pub loop-c-init : goal.loop-c-init
 loop-c-init c =
-    let start = c in
-    (omega arith, power_below _ _ _ _ _ start.requires.4 _ (omega arith) c.row_from-row.ensures, rw add-zero start.requires.5)
+    (omega arith, power_below _ _ _ _ _ c.requires.4 _ (omega arith) c.row_from-row.ensures, rw add-zero c.requires.5)
 
 pub overflow_sub-place : goal.overflow_sub-place
 overflow_sub-place c = omega (arith, c.loop-c.invariant.1 c.loop-c.c (omega arith))
@@ -26,13 +25,12 @@ pub bounds-out-place : goal.bounds-out-place
 bounds-out-place c = omega (arith, c.loop-c.invariant.2.size, c.loop-c.invariant.1 c.loop-c.c (omega arith))
 
 pub loop-c-preserved : goal.loop-c-preserved
-loop-c-preserved c =
-    let start = c in (
-      omega arith,
-      c.loop-c.invariant.1,
-      placed_turn _ _ _ _ _ start.requires.4 _ (omega arith) c.row_from-row.ensures _ _ _ _ c.loop-c.c (omega arith) c.loop-c.invariant.2
-          c.errors_at-errors.ensures (omega arith) _ (omega (arith, c.loop-c.invariant.1 c.loop-c.c (omega arith))),
-    )
+loop-c-preserved c = (
+  omega arith,
+  c.loop-c.invariant.1,
+  placed_turn _ _ _ _ _ c.requires.4 _ (omega arith) c.row_from-row.ensures _ _ _ _ c.loop-c.c (omega arith) c.loop-c.invariant.2
+      c.errors_at-errors.ensures (omega arith) _ (omega (arith, c.loop-c.invariant.1 c.loop-c.c (omega arith))),
+)
 
 pub returns : goal.returns
 returns c =

@@ -9,8 +9,7 @@ use Rattle.words.proofs.marks.unmarked_locator.Goals as goal
 
 pub returns-then-f-eq0 : goal.returns-then-f-eq0
 returns-then-f-eq0 c =
-    let known = c in
-    holds_unmarked known.args.s.now known.args.marks.now (omega arith) (λ i. omega (arith, known.type_inv.s i)) _ _ _
+    holds_unmarked c.args.s.now c.args.marks.now (omega arith) (λ i. omega (arith, c.type_inv.s i)) _ _ _
     c.shortest_register-g.ensures c.polynomial-sigma.ensures
 
 pub slice_bounds-changed-end : goal.slice_bounds-changed-end
@@ -27,7 +26,5 @@ shortest_register-g-requires-2 c = simp length-take (omega arith)
 
 pub returns : goal.returns
 returns c =
-    let changed = c in
-    let start = changed in
-    holds_changed start.args.s.now start.args.marks.now _ start.requires.2 (omega arith) (omega arith) _ _ (one_first 32)
-    changed.times_marks-gamma.ensures _ changed.changed-t.ensures _ _ _ c.shortest_register-g-2.ensures c.polynomial-sigma-2.ensures
+    holds_changed c.args.s.now c.args.marks.now _ c.requires.2 (omega arith) (omega arith) _ _ (one_first 32)
+    c.times_marks-gamma.ensures _ c.changed-t.ensures _ _ _ c.shortest_register-g-2.ensures c.polynomial-sigma-2.ensures

@@ -4,16 +4,14 @@ use Rattle.words.proofs.roots.values_at.Goals as goal
 
 pub returns : goal.returns
 returns c =
-    let parts = c in
-    let start = parts in
     values_three
-    start.args.at
-    parts.in_thirds-parted.ensures
-    start.requires.2
-    start.requires.3
-    start.requires.4
-    start.requires.5
-    parts.row_from-points.ensures
+    c.args.at
+    c.in_thirds-parted.ensures
+    c.requires.2
+    c.requires.3
+    c.requires.4
+    c.requires.5
+    c.row_from-points.ensures
     c.row_from-z.ensures
     c.row_from-square.ensures
     c.joined.ensures

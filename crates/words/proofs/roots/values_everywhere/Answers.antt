@@ -9,21 +9,20 @@ pub loop-row-init : goal.loop-row-init
 loop-row-init c = (omega arith, rows_start _ _ refl)
 
 pub loop-row-preserved : goal.loop-row-preserved
-loop-row-preserved c =
-    let found = c in (
-      omega arith,
-      rows_turn
-          _
-          _
-          (omega arith)
-          found.loop-row.invariant.1
-          found.values_at-found.ensures.0
-          found.values_at-found.ensures.1
-          found.values_at-found.ensures.2
-          c.put_row.ensures
-          c.put_row-in-loop-row.ensures
-          c.put_row-in-loop-row-2.ensures,
-    )
+loop-row-preserved c = (
+  omega arith,
+  rows_turn
+      _
+      _
+      (omega arith)
+      c.loop-row.invariant.1
+      c.values_at-found.ensures.0
+      c.values_at-found.ensures.1
+      c.values_at-found.ensures.2
+      c.put_row.ensures
+      c.put_row-in-loop-row.ensures
+      c.put_row-in-loop-row-2.ensures,
+)
 
 pub returns : goal.returns
 returns c =

@@ -23,6 +23,5 @@ loop-j-preserved c =
 
 pub returns : goal.returns
 returns c =
-    let known = c in
-    summed_ends _ known.args.word.now _ c.loop-j.j c.loop-j.invariant.2 (omega arith)
-    (octets_of_lem known.args.word.now (λ i. omega (arith, known.type_inv.word i)))
+    summed_ends _ c.args.word.now _ c.loop-j.j c.loop-j.invariant.2 (omega arith)
+    (octets_of_lem c.args.word.now (λ i. omega (arith, c.type_inv.word i)))
