@@ -80,6 +80,9 @@ def new_name(name, terms):
     pieces = name.split("-")
     if name.startswith("-") or "" in pieces:
         return name
+    if pieces[0] == "getD":
+        # The library's word is `get_or` now.
+        return "-".join(["get_or"] + pieces[1:])
     is_name = lambda it: it in terms or it in WORDS or not re.search(r"[a-zA-Z]", it)
     out, part = [], snake(pieces[0])
     for at in range(1, len(pieces)):

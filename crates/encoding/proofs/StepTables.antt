@@ -72,10 +72,10 @@ column-below row table j b (suc n) size =
     place : (m : ℕ) → m ≡ 32 → 32 * suc b + j ≡ m + (32 * b + j)
     place m e = omega arith
 
-get_d_map : (f : ℕ → ℕ) (l : List ℕ) (j : ℕ) → j < length l → get_or (map f l) j 0 ≡ f (get_or l j 0)
-get_d_map f [] j h = absurd (omega arith)
-get_d_map f (x ∷ l) zero h = refl
-get_d_map f (x ∷ l) (suc j) h = get_d_map f l j (omega arith)
+get_or-map : (f : ℕ → ℕ) (l : List ℕ) (j : ℕ) → j < length l → get_or (map f l) j 0 ≡ f (get_or l j 0)
+get_or-map f [] j h = absurd (omega arith)
+get_or-map f (x ∷ l) zero h = refl
+get_or-map f (x ∷ l) (suc j) h = get_or-map f l j (omega arith)
 
 column_is : (generator rest : List ℕ) (j : ℕ) → length generator ≡ 32 → j < 32
     → column (table_rows generator rest) j 0 (length rest) ≡ map (λ (bit : ℕ). product bit (get_or generator j 0)) rest
@@ -85,24 +85,24 @@ column_is generator (bit ∷ rest) j size h =
     ap₂ {C = List ℕ} (λ (x : ℕ) (xs : List ℕ). x ∷ xs)
     (ap (λ (x : ℕ). x % 256) (ap (λ (m : ℕ). get_or (map (product bit) generator ++ table_rows generator rest) m 0) (omega arith)
     ∙ get_or-append (map (product bit) generator) (table_rows generator rest) 0 j (omega (arith, length-map generator (product bit)))
-    ∙ get_d_map (product bit) generator j (omega arith)) ∙ mod-eq_of_lt (to_line-lt (to_conventional bit · get_or generator j 0)))
+    ∙ get_or-map (product bit) generator j (omega arith)) ∙ mod-eq_of_lt (to_line-lt (to_conventional bit · get_or generator j 0)))
     (column-below (map (product bit) generator) (table_rows generator rest) j 0 (length rest) (length-map generator (product bit) ∙ size)
     ∙ column_is generator rest j size h)
 
 -- ---- the step
 
-get_d_⊞ : (u v : List ℕ) (j : ℕ) → get_or (u ⊞ v) j 0 ≡ get_or u j 0 ⊕ get_or v j 0
+get_or-⊞ : (u v : List ℕ) (j : ℕ) → get_or (u ⊞ v) j 0 ≡ get_or u j 0 ⊕ get_or v j 0
 unfolding ◌⊞◌
-get_d_⊞ [] v j = sym (zero-⊕ (get_or v j 0))
-get_d_⊞ (a ∷ u) [] j = sym (⊕-zero (get_or (a ∷ u) j 0))
-get_d_⊞ (a ∷ u) (b ∷ v) zero = refl
-get_d_⊞ (a ∷ u) (b ∷ v) (suc j) = get_d_⊞ u v j
+get_or-⊞ [] v j = sym (zero-⊕ (get_or v j 0))
+get_or-⊞ (a ∷ u) [] j = sym (⊕-zero (get_or (a ∷ u) j 0))
+get_or-⊞ (a ∷ u) (b ∷ v) zero = refl
+get_or-⊞ (a ∷ u) (b ∷ v) (suc j) = get_or-⊞ u v j
 
-get_d_snoc : (u : List ℕ) (j : ℕ) → get_or (u ++ (0 ∷ [])) j 0 ≡ get_or u j 0
-get_d_snoc [] zero = refl
-get_d_snoc [] (suc j) = refl
-get_d_snoc (a ∷ u) zero = refl
-get_d_snoc (a ∷ u) (suc j) = get_d_snoc u j
+get_or-snoc : (u : List ℕ) (j : ℕ) → get_or (u ++ (0 ∷ [])) j 0 ≡ get_or u j 0
+get_or-snoc [] zero = refl
+get_or-snoc [] (suc j) = refl
+get_or-snoc (a ∷ u) zero = refl
+get_or-snoc (a ∷ u) (suc j) = get_or-snoc u j
 
 -- eight rows of a generator add its product with the feedback
 pub stepped_entered : (bits row : List ℕ) (symbol : ℕ) (after : List ℕ) → length row ≡ 32 → symbol ⊕ get_or row 0 0 < 256 → Stepped (added_at bits) row symbol after → EnteredBy bits row symbol after
@@ -126,10 +126,10 @@ stepped_entered bits (first ∷ row) symbol after size small S generator long li
         ap (λ (t : List ℕ). times_matrix (column t j 0 8) (symbol ⊕ first)) listed
         ∙ ap (λ (t : List ℕ). times_matrix t (symbol ⊕ first)) (column_is generator eight_bits j long h)
         ∙ product_by_bits (symbol ⊕ first) (get_or generator j 0) small
-        ∙ sym (get_d_map (product (symbol ⊕ first)) generator j (omega arith))
+        ∙ sym (get_or-map (product (symbol ⊕ first)) generator j (omega arith))
 
     done : (j : ℕ) → j < 32 → get_or after j 0 ≡ get_or (up ⊞ products) j 0
-    done j h = S.octet j h ∙ ap₂ (λ (x y : ℕ). x ⊕ y) (sym (get_d_snoc row j)) (whole j h) ∙ sym (get_d_⊞ up products j)
+    done j h = S.octet j h ∙ ap₂ (λ (x y : ℕ). x ⊕ y) (sym (get_or-snoc row j)) (whole j h) ∙ sym (get_or-⊞ up products j)
 
 -- a strength that is not 8 is 16
 pub other_strength : (e : ℕ) → OneOf strengths e → (e ≡ 8 → ⊥) → e ≡ 16

@@ -71,15 +71,15 @@ module _ (f : ℕ → ℕ) (places : ℕ) where
 
 -- what is converted symbol by symbol
 module _ (f : ℕ → ℕ) where
-  pub get_d_map : (w : List ℕ) (i : ℕ) → i < length w → get_or (map f w) i 0 ≡ f (get_or w i 0)
-  get_d_map [] i h = absurd (omega arith)
-  get_d_map (c ∷ w) zero h = refl
-  get_d_map (c ∷ w) (suc i) h = get_d_map w i (omega arith)
+  pub get_or-map : (w : List ℕ) (i : ℕ) → i < length w → get_or (map f w) i 0 ≡ f (get_or w i 0)
+  get_or-map [] i h = absurd (omega arith)
+  get_or-map (c ∷ w) zero h = refl
+  get_or-map (c ∷ w) (suc i) h = get_or-map w i (omega arith)
 
   pub filled-map : (places : ℕ) (w out : List ℕ) → length w ≤ places → Filled (λ i. f (get_or w i 0)) places out (length w) → take (length w) out ≡ map f w
   filled-map places w out h F =
       ext_get_or 0 (take (length w) out) (map f w) (size ∙ sym (length-map w f))
-      (λ i l. get_or-take (length w) out i 0 (omega (arith, size)) ∙ F.each i (omega (arith, size)) ∙ sym (get_d_map w i (omega (arith, size))))
+      (λ i l. get_or-take (length w) out i 0 (omega (arith, size)) ∙ F.each i (omega (arith, size)) ∙ sym (get_or-map w i (omega (arith, size))))
     where
       size : length (take (length w) out) ≡ length w
       size = length-take-le (length w) out (omega (arith, F.size))

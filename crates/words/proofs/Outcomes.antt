@@ -20,7 +20,7 @@ use Rattle.codewords.proofs.LineWords.{conversion_octets, line_octets, back_to_c
 use Rattle.codewords.proofs.Codewords.{good_filled, good_sent, sent_good}
 use Rattle.words.specs.Outcome.{LegalWord, fill_of, repaired, WordOutcome}
 use Rattle.words.specs.Working.{Filled, Decided, DecidedBy}
-use Rattle.words.proofs.Arrays.{zero-at, filled-take, get_d_map}
+use Rattle.words.proofs.Arrays.{zero-at, filled-take, get_or-map}
 use Rattle.words.proofs.Conversions.{to_line-zero}
 
 -- ---- repairing is adding
@@ -137,7 +137,7 @@ module _ (e s : ℕ) (sent : List ℕ) (L : LegalWord e s sent) (octets : Octets
     past : drop (length sent) (map to_line errors) ≡ replicate q 0
     past =
         ext_get_or 0 (drop (length sent) (map to_line errors)) (replicate q 0) (size ∙ sym (length-replicate {A = ℕ} q 0))
-        (λ i h. get_or-drop (length sent) (map to_line errors) i 0 ∙ get_d_map to_line errors (length sent + i) (omega (arith, size, D.size))
+        (λ i h. get_or-drop (length sent) (map to_line errors) i 0 ∙ get_or-map to_line errors (length sent + i) (omega (arith, size, D.size))
         ∙ ap to_line (D.past (length sent + i) (omega (arith, length-map sent to_conventional))) ∙ to_line-zero ∙ sym (zero-at q i))
       where
         size : length (drop (length sent) (map to_line errors)) ≡ q
