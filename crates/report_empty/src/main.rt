@@ -9,6 +9,8 @@ use std::io::Read;
 // The octets of a marked block.
 const BLOCK: usize = 1279;
 
+const READ_FAILED: &str = "report: a read of the input failed";
+
 // A failure is told on standard error; where that fails too, nobody is left to tell.
 fn told<T>(rt: &impl Eprint, outcome: io::Result<T>, failure: &str) -> io::Result<T>
     ensures { result ≡ outcome }
@@ -34,9 +36,24 @@ fn read_piece(input: &mut impl Read, octets: &mut [u8]) -> io::Result<usize>
     Ok(filled)
 }
 
-// A read that fails leaves no piece, so a short one is the input's last.
-fn ended(piece: usize) -> bool {
-    piece < BLOCK
+// After a short piece one more read tells the input's end from a gap in it, behind which more comes.
+fn ended(input: &mut impl Read) -> io::Result<bool> {
+    let mut more = [0u8; 1];
+    let n = input.read(&mut more)?;
+    Ok(n == 0)
+}
+
+// A gap is told as a failed read is, and no line is written for the piece before it.
+fn complete(rt: &HostRuntime, piece: usize) -> io::Result<bool> {
+    if piece == BLOCK {
+        return Ok(true);
+    }
+    let end = ended(&mut rt.stdin());
+    let last = told(rt, end, READ_FAILED)?;
+    if !last {
+        let _ = rt.eprintln(READ_FAILED);
+    }
+    Ok(last)
 }
 
 fn written(rt: &(impl Print + Eprint), line: &[u8]) -> io::Result<()> {
@@ -49,10 +66,13 @@ fn main(rt: HostRuntime) -> io::Result<()> {
     for block in 0..u64::MAX {
         let mut octets = [0u8; BLOCK];
         let read = read_piece(&mut rt.stdin(), &mut octets);
-        let n = told(&rt, read, "report: a read of the input failed")?;
+        let n = told(&rt, read, READ_FAILED)?;
+        if !complete(&rt, n)? {
+            break;
+        }
         let text = report_pieces::piece(block, &octets[..n]);
         written(&rt, &text.octets[..text.len])?;
-        if ended(n) {
+        if n < BLOCK {
             break;
         }
     }
