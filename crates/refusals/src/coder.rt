@@ -53,13 +53,8 @@ fn symbols_of(rate: u32, place: u8, octets: usize) -> usize
 {
     let start = place as usize;
     let bits = 8 * octets;
-    match rate {
-        1 => bits + bits,
-        2 => bits + ((start + bits + 1) / 2 - (start + 1) / 2),
-        3 => bits + ((start + bits + 2) / 3 - (start + 2) / 3),
-        4 => bits + ((start + bits + 4) / 5 - (start + 4) / 5),
-        _ => bits + ((start + bits + 6) / 7 - (start + 6) / 7),
-    }
+    let period = period_of(rate) as usize;
+    bits + ((start + bits).div_ceil(period) - start.div_ceil(period))
 }
 
 pub fn convolve_parameters(
