@@ -4,15 +4,8 @@ use mathlib.Core.Bool.{true}
 use mathlib.Core.Logic.{◌≢◌, ◌⊎◌}
 use Prim.Native.Nat.{ℕ}
 use Rattle.refusals.specs.Order.{Tells}
-use Rattle.std.proofs.lemmas.Result.{err_from_is_err_and}
-use Rattle.refusals.specs.Working.{word_parameters}
-use Rattle.refusals.proofs.Verdicts.{stopped, after_words, last_checks}
+use Rattle.refusals.proofs.Verdicts.{after_words, last_checks}
 use Rattle.refusals.proofs.portions.close_parameters.Goals as goal
-
-pub returns-in_err-check : goal.returns-in_err-check
-returns-in_err-check c =
-    let p = err_from_is_err_and c.from_residual.result c.from_residual.ensures.1 in
-    rw (p.1, p.2) (stopped _ (word_parameters _ _ _) _ c.in_err-check.ensures)
 
 pub returns : goal.returns
 returns c =
