@@ -127,7 +127,7 @@ pub fn decode(e: u32, depth: u32, fill: u32, s: u32, block: &[u8], frame: &mut [
     let words = depth as usize;
     let n = frame.len();
     let rows = front_rows(e, words, n, block);
-    if has_checks(rows, words, n, block) {
+    if has_checks(&rows, words, n, block) {
         copy_front(&block[..n], frame);
         return as_received();
     }

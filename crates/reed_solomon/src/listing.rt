@@ -27,10 +27,8 @@ fn run_alike(block: &[u8], mended: &[u8], from: usize, end: usize) -> bool
         return false;
     }
     let mut alike = true;
-    for k in 0..16usize {
-        if block[from + k] != mended[from + k] {
-            alike = false;
-        }
+    for (old, new) in block[from..end].iter().zip(&mended[from..end]) {
+        alike &= old == new;
     }
     alike
 }
@@ -52,8 +50,7 @@ fn put_run(
     }
     let mut listed = entries;
     for at in from..end {
-        let more = put_change(at, block[at], mended[at], listed, list);
-        listed = more;
+        listed = put_change(at, block[at], mended[at], listed, list);
     }
     listed
 }
@@ -78,8 +75,7 @@ pub(crate) fn put_changes(block: &[u8], mended: &[u8], list: &mut [u8]) -> u32
     let n = block.len();
     while at < n {
         let end = run_end(at, n);
-        let more = put_run(block, mended, at, end, entries, list);
-        entries = more;
+        entries = put_run(block, mended, at, end, entries, list);
         at = end;
     }
     entries as u32

@@ -17,30 +17,28 @@ pub(crate) fn front_rows(e: u32, depth: usize, n: usize, block: &[u8]) -> [[u8; 
 }
 
 // Whether a row's octets stand in the block from `first` on, `depth` octets apart.
-fn row_stands(row: [u8; 32], depth: usize, first: usize, block: &[u8]) -> bool
-    requires { (0 < depth) × (depth ≤ 8) × (length block.now ≤ first + 32 * depth) × (length block.now ≤ 2040) }
-    ensures { result ≡ true → RowStands row depth first block.now }
+fn row_stands(row: &[u8; 32], depth: usize, first: usize, block: &[u8]) -> bool
+    requires { (0 < depth) × (depth ≤ 8) × (first ≤ 2048) × (length block.now ≤ first + 32 * depth) × (length block.now ≤ 2040) }
+    ensures { result ≡ true → RowStands row.now depth first block.now }
 {
-    let mut at = first;
-    let mut check = 0usize;
-    let n = block.len();
-    while at < n {
-        if block[at] != row[check] {
+    for (j, check) in row.iter().enumerate() {
+        let at = first + j * depth;
+        if at >= block.len() {
+            break;
+        }
+        if block[at] != *check {
             return false;
         }
-        check += 1;
-        at += depth;
     }
     true
 }
 
-// Word after word, so that each row is copied out once.
-pub(crate) fn has_checks(rows: [[u8; 32]; 8], depth: usize, start: usize, block: &[u8]) -> bool
+// Word after word.
+pub(crate) fn has_checks(rows: &[[u8; 32]; 8], depth: usize, start: usize, block: &[u8]) -> bool
     requires { (0 < depth) × (depth ≤ 8) × (start ≤ length block.now) × (length block.now ≤ start + 32 * depth) × (length block.now ≤ 2040) }
-    ensures { result ≡ true → Standing rows depth start block.now }
+    ensures { result ≡ true → Standing rows.now depth start block.now }
 {
-    for w in 0..depth {
-        let row = rows[w];
+    for (w, row) in rows[..depth].iter().enumerate() {
         if !row_stands(row, depth, start + w, block) {
             return false;
         }

@@ -139,7 +139,7 @@ pub fn salvage(
     }
     let words = depth as usize;
     let rows = front_rows(e, words, n, block);
-    if has_checks(rows, words, n, block) {
+    if has_checks(&rows, words, n, block) {
         copy_front(&block[..n], frame);
         return as_received(words);
     }

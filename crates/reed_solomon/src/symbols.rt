@@ -42,8 +42,8 @@ pub(crate) fn put_repaired(
     requires { (n ≤ 255) × (depth ≤ 8) × (w < depth) × (n * depth ≤ length block.now) × (n * depth ≤ length frame.old) }
     ensures { Put depth w n block.now errors.now frame.old frame.new }
 {
-    for k in 0..n {
+    for (k, error) in errors[..n].iter().enumerate() {
         let at = octet_of(k, depth, w);
-        frame[at] = block[at] ^ errors[k];
+        frame[at] = block[at] ^ *error;
     }
 }

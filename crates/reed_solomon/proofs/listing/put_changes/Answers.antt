@@ -19,8 +19,8 @@ loop-at-init c = (omega arith, listed_start _ _ _)
 pub run_end-end-requires : goal.run_end-end-requires
 run_end-end-requires c = (omega arith, c.requires.0)
 
-pub put_run-more-requires : goal.put_run-more-requires
-put_run-more-requires c =
+pub put_run-entries-requires : goal.put_run-entries-requires
+put_run-entries-requires c =
     let turn = c.loop-at in
     let end = c.run_end-end in
     (omega (arith, end.ensures.0), end.ensures.1, omega (arith, end.ensures.1, c.requires.0), c.requires.1, turn.invariant.1.size ∙ c.requires.2, turn.invariant.1.few)
@@ -29,7 +29,7 @@ pub loop-at-smaller : goal.loop-at-smaller
 loop-at-smaller c = omega (arith, c.run_end-end.ensures.0)
 
 pub loop-at-preserved : goal.loop-at-preserved
-loop-at-preserved c = (c.run_end-end.ensures.1, c.put_run-more.ensures _ c.loop-at.invariant.1)
+loop-at-preserved c = (c.run_end-end.ensures.1, c.put_run-entries.ensures _ c.loop-at.invariant.1)
 
 pub overflow_cast-result : goal.overflow_cast-result
 overflow_cast-result c = omega (arith, c.loop-at.invariant.1.few, c.requires.0)

@@ -10,7 +10,7 @@ use Rattle.reed_solomon.proofs.listing.put_run.Goals as goal
 pub loop-at-preserved : goal.loop-at-preserved
 loop-at-preserved c =
     let turn = c.loop-at in
-    let put = c.put_change-more in (
+    let put = c.put_change-listed in (
       omega (arith, turn.invariant.0),
       omega arith,
       omega (arith, turn.invariant.2, put.ensures.entered, change_most turn.at (get_or c.args.block.now turn.at 0) (get_or c.args.mended.now turn.at 0)),
@@ -30,8 +30,8 @@ returns-then-run_alike c =
 pub loop-at-init : goal.loop-at-init
 loop-at-init c = (omega arith, c.requires.0, c.requires.5, refl, λ before L. L)
 
-pub put_change-more-requires : goal.put_change-more-requires
-put_change-more-requires c =
+pub put_change-listed-requires : goal.put_change-listed-requires
+put_change-listed-requires c =
     let turn = c.loop-at in
     (omega (arith, c.requires.2), turn.invariant.2, omega (arith, turn.invariant.2, turn.invariant.3, c.requires.1, c.requires.4))
 

@@ -1,13 +1,10 @@
--- `run_alike`: if no octet of the run has differed, those before the k-th are the same.
+-- `run_alike`: if no octet of the run has differed, those looked at are the same.
 use mathlib.Core.Path.{◌≡◌}
 use mathlib.Core.Bool.{true}
-use Prim.Native.Nat.{◌-◌, ◌+◌, ◌≤◌}
+use Prim.Native.Nat.{◌+◌, ◌-◌}
+use lib.ListN.{length}
 use Rattle.reed_solomon.specs.SalvageWorking.{Alike}
 use Rattle.reed_solomon.proofs.listing.run_alike.Given as goal
 
-abbrev pub invariant-loop-k : goal.invariant-loop-k
-invariant-loop-k l =
-    (l.k ≤ 16) × (l.end - l.from ≡ 16) × (l.alike ≡ true → Alike l.from (l.from + l.k) l.block l.mended)
-
-abbrev pub decreases-loop-k : goal.decreases-loop-k
-decreases-loop-k l = 16 - l.k
+abbrev pub invariant-loop-old : goal.invariant-loop-old
+invariant-loop-old l = (l.end - l.from ≡ 16) × (l.alike ≡ true → Alike l.from (l.from + length l.yielded) l.block l.mended)

@@ -1,6 +1,9 @@
 -- `put_repaired`: before symbol k the first k symbols stand in their places.
-use mathlib.Core.Path.{◌≡◌, refl}
-use Prim.Native.Nat.{◌*◌, ◌<◌}
+use mathlib.Core.Path.{◌≡◌, refl, ap}
+use Prim.Native.Nat.{ℕ, ◌*◌, ◌<◌}
+use lib.Bits.{bit_xor}
+use lib.ListN.{get_or}
+use lib.Seq.{get_or-take}
 use native.Mathlib.Omega.{arith}
 use Rattle.reed_solomon.specs.DecoderWorking.{Put}
 use Rattle.encoding.proofs.Interleaving.{place-below}
@@ -28,7 +31,7 @@ pub loop-k-preserved : goal.loop-k-preserved
 loop-k-preserved c =
     let P : Put _ _ _ _ _ _ _ =
     put_turn c.args.depth c.args.w c.args.block.now c.args.errors.now c.args.frame.now (omega arith) c.loop-k.k c.octet_of-at.result
-    _ c.loop-k.frame c.loop-k.invariant.2 c.octet_of-at.ensures (omega (arith, within (goal.at.loop-k-preserved c).After-octet_of-at)) refl in
+    _ c.loop-k.frame c.loop-k.invariant.2 c.octet_of-at.ensures (omega (arith, within (goal.at.loop-k-preserved c).After-octet_of-at)) (ap (λ (error : ℕ). bit_xor (get_or c.args.block.now c.octet_of-at.result 0) error) (get_or-take c.args.n c.args.errors.now c.loop-k.k 0 (omega arith))) in
     (omega arith, P.size, P)
 
 pub returns : goal.returns
