@@ -20,7 +20,7 @@ pub returns : goal.returns
 returns c = encode_accepts _ _ _ _ _ _ _ (search) (search passed) (search octets_known) (search checks_written) (search)
 
 pub enter-requires : goal.enter-requires
-enter-requires c = ((legal (goal.at.enter-requires c).In_default).words.strength, omega (arith, (legal (goal.at.enter-requires c).In_default).words.some), (legal (goal.at.enter-requires c).In_default).words.deep, refl)
+enter-requires c = ((legal (goal.at.enter-requires c).In_default).words.strength, omega (arith, (legal (goal.at.enter-requires c).In_default).words.some), (legal (goal.at.enter-requires c).In_default).words.deep)
 
 pub put_checks-requires : goal.put_checks-requires
 put_checks-requires c = checks_room _ _ _ c.args.frame.now c.args.block.now _ (legal (goal.at.put_checks-requires c).In_default) c.copy_front.ensures
