@@ -11,7 +11,7 @@ use crate::table_8::TABLE_8;
 use crate::table_16::TABLE_16;
 use check_rows::{FeedbackRows, stepped, table_of};
 use octets::copy_front;
-use refusals::Verdict;
+use refusals::{Code, Parameter};
 
 // A row and a symbol by value, as octets that are known to be octets.
 fn entered<R: FeedbackRows>(source: &R, row: [u8; 32], symbol: u8) -> [u8; 32]
@@ -96,17 +96,14 @@ pub(crate) fn put_checks(rows: [[u8; 32]; 8], depth: usize, start: usize, block:
 }
 
 // Nothing is written before every check has passed: a refusal leaves the block as it was.
-pub fn encode(e: u32, depth: u32, fill: u32, frame: &[u8], block: &mut [u8]) -> Verdict
-    ensures { EncodeOutcome e depth fill frame.now block.old result block.new }
+pub fn encode(code: Code, frame: &[u8], block: &mut [u8]) -> Result<(), Parameter>
+    ensures { EncodeOutcome code.strength code.depth code.fill frame.now block.old result block.new }
 {
-    let verdict = refusals::encode_parameters(e, depth, fill, frame.len(), block.len());
-    if let Verdict::Refused(p) = verdict {
-        return Verdict::Refused(p);
-    }
-    let words = depth as usize;
+    refusals::encode_parameters(code, frame.len(), block.len())?;
+    let words = code.depth as usize;
     let mut rows = [[0u8; 32]; 8];
-    enter(e, &mut rows, 0, frame, words);
+    enter(code.strength, &mut rows, 0, frame, words);
     copy_front(frame, block);
     put_checks(rows, words, frame.len(), block);
-    Verdict::Accepted
+    Ok(())
 }
