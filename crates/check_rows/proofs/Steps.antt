@@ -1,30 +1,34 @@
 -- A symbol enters a row: the row moved up, with the row of the feedback added, at once or bit by bit.
 use mathlib.Core.Path.{◌≡◌, refl, sym, ap, ap₂, ◌∙◌}
-use mathlib.Core.List.{List, [], ◌∷◌}
-use Prim.Native.Nat.{ℕ, zero, suc, ◌+◌, ◌-◌, ◌*◌, ◌/◌, ◌%◌, ◌^◌, ◌<◌}
+use mathlib.Core.List.{List, [], ◌∷◌, ◌++◌}
+use lib.Seq.{get_or-append-add, get_or-take}
+use Prim.Native.Nat.{ℕ, zero, suc, ◌+◌, ◌-◌, ◌*◌, ◌%◌, ◌<◌}
 use native.Mathlib.Nat.{mod-lt}
 use native.Mathlib.Numerals.{add-one}
 use native.Mathlib.Decide.{ℕ_discrete}
 use native.Mathlib.Omega.{arith}
-use lib.ListN.{length, get_or, replicate, get_or-replicate, get_or-eq_default}
+use lib.ListN.{length, get_or, take, drop, length-take, length-append, length-drop, get_or-append, get_or-eq_default}
+use Rattle.std.proofs.lemmas.Grind.{get_or_after_one}
 use lib.Bits.{bit_and, bit_xor, and_mask, and_comm}
 use Rattle.field.specs.Field.{◌⊕◌, where_set}
 use Rattle.field.specs.Line.{times_matrix}
 use Rattle.field.proofs.Sum.{⊕_is, ⊕_assoc, ⊕-zero, ⊕_octet}
-use Rattle.check_rows.specs.Rows.{column, added_at, table_at, SumTable, Stepped}
-use Rattle.check_rows.specs.Working.{MovedUp, BitAdded, RowAdded}
-use Rattle.check_rows.proofs.Filling.{Filled}
+use Rattle.check_rows.specs.Rows.{column, added_at, table_at, SumTable, RowAdded, Stepped}
+use Rattle.check_rows.specs.Working.{MovedUp, bit_at}
 use Rattle.check_rows.proofs.Columns.{column-opened, column_none}
 
-pub moved_end : (row moved : List ℕ) (at : ℕ) → at ≡ 31 → length row ≡ 32 → Filled (λ (n : ℕ). get_or row (n + 1) 0) (replicate 32 0) 0 at moved → MovedUp row moved
-moved_end row moved at e long F =
+pub moved_end : (row moved : List ℕ) → length row ≡ 32 → moved ≡ take 31 (drop 1 row) → MovedUp row (moved ++ (0 ∷ []))
+moved_end row moved long copied =
     record {
-      size = F.size;
+      size = length-append moved (0 ∷ []) ∙ omega (arith, size);
       octet = λ j h. elim (ℕ_discrete j 31) [
-        | yes l ↦ F.rest j (omega arith) ∙ get_or-replicate 32 j 0 0 h ∙ sym (get_or-eq_default row 0 {n = suc j} (omega arith))
-        | no d ↦ F.done j (omega arith) (omega arith) ∙ ap (λ (m : ℕ). get_or row m 0) (add-one j)
+        | yes l ↦ ap (λ (m : ℕ). get_or (moved ++ (0 ∷ [])) m 0) (omega (arith, size)) ∙ get_or-append-add moved (0 ∷ []) 0 0 ∙ sym (get_or-eq_default row 0 {n = suc j} (omega arith))
+        | no d ↦ get_or-append moved (0 ∷ []) 0 j (omega (arith, size)) ∙ ap (λ (list : List ℕ). get_or list j 0) copied ∙ get_or-take 31 (drop 1 row) j 0 (omega arith) ∙ get_or_after_one row j 0 ∙ ap (λ (m : ℕ). get_or row m 0) (omega arith)
       ];
     }
+  where
+    size : length moved ≡ 31
+    size = ap length copied ∙ length-take 31 (drop 1 row) ∙ omega (arith, length-drop 1 row)
 
 pub added_octet : (sum before octet : ℕ) → sum ≡ before → bit_xor sum octet ≡ before ⊕ octet
 added_octet sum before octet e = sym (⊕_is sum octet) ∙ ap (λ (x : ℕ). x ⊕ octet) e
@@ -57,7 +61,7 @@ pub record Added (rows : List ℕ) (feedback : ℕ) (row : List ℕ) (bit : ℕ)
 pub bits-start : (rows : List ℕ) (feedback : ℕ) (row : List ℕ) → length row ≡ 32 → Added rows feedback row 0 row
 bits-start rows feedback row long = record { size = long; octet = λ j h. refl }
 
-pub bits_turn : (rows : List ℕ) (feedback bit : ℕ) (row sum next : List ℕ) → bit < 8 → Added rows feedback row bit sum → BitAdded rows feedback bit sum next
+pub bits_turn : (rows : List ℕ) (feedback bit : ℕ) (row sum next : List ℕ) → bit < 8 → Added rows feedback row bit sum → RowAdded (bit_at rows feedback bit) sum next
     → Added rows feedback row (bit + 1) next
 bits_turn rows feedback bit row sum next h A B =
     record {
@@ -69,28 +73,26 @@ bits_turn rows feedback bit row sum next h A B =
     rest j = times_matrix (column rows j (bit + 1) (8 - (bit + 1))) feedback
 
     here : ℕ → ℕ
-    here j = where_set (feedback / 2 ^ (7 - bit) % 2) (get_or rows (32 * bit + j) 0 % 256)
+    here = bit_at rows feedback bit
 
     split : (j : ℕ) → times_matrix (column rows j bit (8 - bit)) feedback ≡ here j ⊕ rest j
     split j =
         ap (λ (n : ℕ). times_matrix (column rows j bit n) feedback) (omega arith) ∙ column-opened rows feedback j bit (7 - bit)
         ∙ ap₂ (λ (b n : ℕ). here j ⊕ times_matrix (column rows j b n) feedback) (sym (add-one bit)) (omega arith)
 
--- ---- the step
-
-pub bits-end : (rows : List ℕ) (feedback symbol bit : ℕ) (row moved sum : List ℕ) → bit ≡ 8 → feedback ≡ symbol ⊕ get_or row 0 0 → MovedUp row moved → Added rows feedback moved bit sum
-    → Stepped (added_at rows) row symbol sum
-bits-end rows feedback symbol bit row moved sum e f M A =
+pub bits-end : (rows : List ℕ) (feedback bit : ℕ) (row sum : List ℕ) → bit ≡ 8 → Added rows feedback row bit sum → RowAdded (added_at rows feedback) row sum
+bits-end rows feedback bit row sum e A =
     record {
       size = A.size;
-      octet = λ j h. sym (⊕-zero (get_or sum j 0)) ∙ ap (λ (x : ℕ). get_or sum j 0 ⊕ x) (sym (column_none rows feedback j bit (8 - bit) (omega arith))) ∙ A.octet j h
-          ∙ ap₂ (λ (x y : ℕ). x ⊕ added_at rows y j) (M.octet j h) f;
+      octet = λ j h. sym (⊕-zero (get_or sum j 0)) ∙ ap (λ (x : ℕ). get_or sum j 0 ⊕ x) (sym (column_none rows feedback j bit (8 - bit) (omega arith))) ∙ A.octet j h;
     }
 
-pub table_end : (table : List ℕ) (feedback symbol : ℕ) (row moved sum : List ℕ) → feedback ≡ symbol ⊕ get_or row 0 0 → MovedUp row moved → RowAdded table feedback moved sum
-    → Stepped (table_at table) row symbol sum
-table_end table feedback symbol row moved sum f M A =
-    record { size = A.size; octet = λ j h. A.octet j h ∙ ap₂ (λ (x y : ℕ). x ⊕ table_at table y j) (M.octet j h) f }
+-- ---- the step
+
+pub step-end : (adds : ℕ → ℕ → ℕ) (feedback symbol : ℕ) (row moved sum : List ℕ) → feedback ≡ symbol ⊕ get_or row 0 0 → MovedUp row moved → RowAdded (adds feedback) moved sum
+    → Stepped adds row symbol sum
+step-end adds feedback symbol row moved sum f M A =
+    record { size = A.size; octet = λ j h. A.octet j h ∙ ap₂ (λ (x y : ℕ). x ⊕ adds y j) (M.octet j h) f }
 
 -- a table of eight rows steps as they do
 pub stepped_alike : (rows table row : List ℕ) (symbol : ℕ) (after : List ℕ) → SumTable rows table → symbol < 256 → get_or row 0 0 < 256

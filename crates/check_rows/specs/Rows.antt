@@ -21,6 +21,11 @@ pub record SumTable (rows table : List ℕ) : Type 0 where
   pub size : length table ≡ 8192
   pub sums : (f j : ℕ) → f < 256 → j < 32 → table_at table f j ≡ added_at rows f j
 
+-- A row with an octet added at each place.
+pub record RowAdded (adds : ℕ → ℕ) (row sum : List ℕ) : Type 0 where
+  pub size : length sum ≡ 32
+  pub octet : (j : ℕ) → j < 32 → get_or sum j 0 ≡ get_or row j 0 ⊕ adds j
+
 -- A row when one more symbol of its word has entered: its octets move up one place, and what the feedback, the symbol plus the first octet,
 -- adds at each place is added.
 pub record Stepped (adds : ℕ → ℕ → ℕ) (row : List ℕ) (symbol : ℕ) (after : List ℕ) : Type 0 where

@@ -24,12 +24,6 @@ pub record MovedUp (row moved : List ℕ) : Type 0 where
   pub size : length moved ≡ 32
   pub octet : (j : ℕ) → j < 32 → get_or moved j 0 ≡ get_or row (suc j) 0
 
--- A row with what one bit of the feedback adds, where that bit is set.
-pub record BitAdded (rows : List ℕ) (feedback bit : ℕ) (row sum : List ℕ) : Type 0 where
-  pub size : length sum ≡ 32
-  pub octet : (j : ℕ) → j < 32 → get_or sum j 0 ≡ get_or row j 0 ⊕ where_set (feedback / 2 ^ (7 - bit) % 2) (get_or rows (32 * bit + j) 0 % 256)
-
--- A row with the table's row of a feedback octet added.
-pub record RowAdded (table : List ℕ) (feedback : ℕ) (row sum : List ℕ) : Type 0 where
-  pub size : length sum ≡ 32
-  pub octet : (j : ℕ) → j < 32 → get_or sum j 0 ≡ get_or row j 0 ⊕ get_or table (32 * feedback + j) 0
+-- What one bit of the feedback adds at place j, where that bit is set.
+abbrev pub bit_at : List ℕ → ℕ → ℕ → ℕ → ℕ
+bit_at rows feedback bit j = where_set (feedback / 2 ^ (7 - bit) % 2) (get_or rows (32 * bit + j) 0 % 256)

@@ -4,5 +4,5 @@
 mod step;
 mod table;
 
-pub use step::{stepped_by_bits, stepped_by_table};
+pub use step::{FeedbackRows, stepped};
 pub use table::table_of;

@@ -3,17 +3,15 @@ ghost use Rattle.std.specs.Prelude.{◌≡◌, ◌≤◌, ◌<◌, length};
 ghost use Rattle.check_rows.specs.Rows.{SumTable};
 ghost use Rattle.check_rows.specs.Working.{BitRow, SumPut, Doubled};
 
+use std::array;
+
 // The row of one bit, copied out.
 fn bit_row(rows: &[u8; 256], bit: usize) -> [u8; 32]
     requires { bit < 8 }
     ensures { BitRow rows.now bit result }
 {
     let first = 32 * bit;
-    let mut row = [0u8; 32];
-    for j in 0..32 {
-        row[j] = rows[first + j];
-    }
-    row
+    array::from_fn(|j| rows[first + j])
 }
 
 // Row `to` becomes row `from` with another row added.
@@ -23,9 +21,8 @@ fn put_sum(table: &mut [u8], from: usize, to: usize, row: [u8; 32])
 {
     let source = 32 * from;
     let target = 32 * to;
-    for j in 0..32 {
-        table[target + j] = table[source + j] ^ row[j];
-    }
+    let sum: [u8; 32] = array::from_fn(|j| table[source + j] ^ row[j]);
+    table[target..target + 32].copy_from_slice(&sum);
 }
 
 // As many rows more as there are: each of the old ones with the row of the next bit added.
@@ -43,11 +40,8 @@ pub fn table_of(rows: &[u8; 256]) -> [u8; 8192]
     ensures { SumTable rows.now result }
 {
     let mut table = [0u8; 8192];
-    let mut size = 1usize;
-    for bit in 0usize..8 {
-        let row = bit_row(rows, 7 - bit);
-        double(&mut table, size, row);
-        size = size + size;
+    for bit in 0..8 {
+        double(&mut table, 1 << bit, bit_row(rows, 7 - bit));
     }
     table
 }

@@ -1,5 +1,6 @@
 -- A block that holds the frame and then the rows of checks, interleaved, is coded; so encode keeps what it promises.
-use mathlib.Core.Path.{◌≡◌, sym, ap, ap₂, ◌∙◌, subst}
+use Rattle.std.specs.Prelude.{⊤, Ok, Err}
+use mathlib.Core.Path.{◌≡◌, refl, sym, ap, ap₂, ◌∙◌, subst}
 use mathlib.Core.List.{List, [], ◌++◌}
 use Prim.Native.Nat.{ℕ, ◌+◌, ◌-◌, ◌*◌, ◌/◌, ◌%◌, ◌≤◌, ◌<◌}
 use native.Mathlib.Nat.{mul-le-mul_right, mod-eq_of_lt, mod-lt, div-add-mod'}
@@ -14,13 +15,11 @@ use Rattle.octets.proofs.Laws.{copied_length, copied_front}
 use Rattle.refusals.specs.Order.{FirstOf}
 use Rattle.refusals.specs.Sizes.{information, frame_length, block_length}
 use Rattle.refusals.specs.Calls.{encode_order}
-use Rattle.refusals.specs.Numbers.{verdict_number}
+use Rattle.refusals.specs.Numbers.{Verdict, verdict_number, parameter_number}
 use Rattle.refusals.specs.declared.Parameter.{Parameter}
-use Rattle.refusals.specs.declared.Verdict.{Verdict}
-use Rattle.refusals.specs.declared.Verdict.TheVariants.{Accepted, Refused}
 use Rattle.refusals.proofs.Orders.{Numbered, Clear, accepted_clear, not_different}
 use Rattle.refusals.proofs.Legal.{LegalWords, legal_words}
-use Rattle.refusals.proofs.Verdicts.{parameter_nonzero, same_verdict}
+use Rattle.refusals.proofs.Verdicts.{parameter_nonzero}
 use Rattle.codewords.specs.Words.{Octets, Codeword, with_fill}
 use Rattle.codewords.proofs.WordValues.{octet_at, octets_of_lem}
 use Rattle.encoding.specs.Blocks.{sent_from, word_of}
@@ -127,25 +126,15 @@ pub octets_known : (frame : List ℕ) → ((m : ℕ) → Fits w8 (get_or frame m
 octets_known frame known m = (known m).fits
 
 module _ (e i q : ℕ) (frame before after : List ℕ) where
-  pub encode_refuses : (v : Verdict) (p : Parameter) → v ≡ Refused p → FirstOf (encode_order e i q (length frame) (length before)) (verdict_number v) → after ≡ before
-      → EncodeOutcome e i q frame before (Refused p) after
-  encode_refuses v p refuses first untouched =
-      record {
-        number = same_verdict (encode_order e i q (length frame) (length before)) v (Refused p) refuses first;
-        size = ap length untouched;
-        refused = λ n. untouched;
-        accepted = λ n. absurd (parameter_nonzero p n);
-      }
+  pub encode_refuses : (p : Parameter) → FirstOf (encode_order e i q (length frame) (length before)) (parameter_number p) → after ≡ before
+      → EncodeOutcome e i q frame before (Err p) after
+  encode_refuses p first untouched =
+      record { number = first; size = ap length untouched; refused = λ n. untouched; accepted = λ n. absurd (parameter_nonzero p n) }
 
-  pub encode_accepts : (v : Verdict) → v ≡ Accepted → FirstOf (encode_order e i q (length frame) (length before)) 0 → ((m : ℕ) → get_or frame m 0 < 256) → (W : ChecksWritten e i frame after)
-      → W.put ≡ copied_over frame before → EncodeOutcome e i q frame before v after
-  encode_accepts v accepts first octets W copied =
-      record {
-        number = subst (FirstOf (encode_order e i q (length frame) (length before))) (sym (ap verdict_number accepts)) first;
-        size = W.checks.size ∙ put_size frame before W.put copied;
-        refused = λ n. absurd (n (ap verdict_number accepts));
-        accepted = λ n. coded;
-      }
+  pub encode_accepts : (done : ⊤) → FirstOf (encode_order e i q (length frame) (length before)) 0 → ((m : ℕ) → get_or frame m 0 < 256) → (W : ChecksWritten e i frame after)
+      → W.put ≡ copied_over frame before → EncodeOutcome e i q frame before (Ok done) after
+  encode_accepts done first octets W copied =
+      record { number = first; size = W.checks.size ∙ put_size frame before W.put copied; refused = λ n. absurd (n refl); accepted = λ n. coded }
     where
       legal : EncodeLegal e i q (length frame) (length before)
       legal = encode_legal e i q (length frame) (length before) first

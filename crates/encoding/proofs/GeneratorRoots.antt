@@ -12,7 +12,7 @@ use Rattle.refusals.specs.Sizes.{strengths}
 use Rattle.codewords.specs.Polynomials.{◌⊞◌, scaled}
 use Rattle.codewords.specs.Locators.{Generator}
 use Rattle.codewords.proofs.Checks.{generator8, generator16, generator8_right, generator16_right}
-use Rattle.encoding.specs.Rows.{with_root, rooted, generator}
+use Rattle.encoding.specs.Rows.{with_root, rooted, generator, in_row}
 use Rattle.encoding.specs.Working.{table_of, StrengthTable}
 
 -- each root is the one before times alpha^11: so a test need not take each power anew
@@ -52,8 +52,8 @@ generator_right e (inr (inl h)) =
 generator_right e (inr (inr o)) = absurd o
 
 -- so the table of each is known by its coefficients
-pub table_8 : (table : List ℕ) → table ≡ table_of (generator8 ++ replicate 16 0) → StrengthTable 8 table
-table_8 table listed = listed ∙ ap (λ (g : List ℕ). table_of (g ++ replicate 16 0)) (sym eight)
+pub table_8 : (e : ℕ) (table : List ℕ) → e ≡ 8 → table ≡ table_of (generator8 ++ replicate 16 0) → StrengthTable e table
+table_8 e table is listed = listed ∙ ap (λ (g : List ℕ). table_of (g ++ replicate 16 0)) (sym eight) ∙ ap (λ (n : ℕ). table_of (in_row n)) (sym is)
 
-pub table_16 : (table : List ℕ) → table ≡ table_of (generator16 ++ replicate 0 0) → StrengthTable 16 table
-table_16 table listed = listed ∙ ap (λ (g : List ℕ). table_of (g ++ replicate 0 0)) (sym sixteen)
+pub table_16 : (e : ℕ) (table : List ℕ) → e ≡ 16 → table ≡ table_of (generator16 ++ replicate 0 0) → StrengthTable e table
+table_16 e table is listed = listed ∙ ap (λ (g : List ℕ). table_of (g ++ replicate 0 0)) (sym sixteen) ∙ ap (λ (n : ℕ). table_of (in_row n)) (sym is)

@@ -62,14 +62,14 @@ module _ (generator : List ℕ) (i : ℕ) where
 -- ---- the loop
 
 -- the first octets have entered, and the next is of `word`
-pub record Turn (table : List ℕ) (i first : ℕ) (before : List (List ℕ)) (symbols : List ℕ) (at word : ℕ) (rows : List (List ℕ)) : Type 0 where
+pub record Turn (adds : ℕ → ℕ → ℕ) (i first : ℕ) (before : List (List ℕ)) (symbols : List ℕ) (at word : ℕ) (rows : List (List ℕ)) : Type 0 where
   pub within : word < i
   pub size : length rows ≡ 8
   pub next : (place : ℕ) → place % i ≡ first → (place + at) % i ≡ word
-  pub done : RowsBy table i first before (take at symbols) rows
+  pub done : RowsBy adds i first before (take at symbols) rows
 
-module _ (table : List ℕ) (i first : ℕ) (before : List (List ℕ)) (symbols : List ℕ) where
-  pub turn_start : first < i → length before ≡ 8 → Turn table i first before symbols 0 first before
+module _ (adds : ℕ → ℕ → ℕ) (i first : ℕ) (before : List (List ℕ)) (symbols : List ℕ) where
+  pub turn_start : first < i → length before ≡ 8 → Turn adds i first before symbols 0 first before
   unfolding rows_entered
   turn_start h l =
       record {
@@ -79,16 +79,16 @@ module _ (table : List ℕ) (i first : ℕ) (before : List (List ℕ)) (symbols 
         done = λ e strength listed place p. refl;
       }
 
-  module _ (at word : ℕ) (rows after : List (List ℕ)) (row : List ℕ) (T : Turn table i first before symbols at word rows) (h : at < length symbols)
-      (sets : after ≡ set rows word row) (steps : EnteredBy table (get_or rows word []) (get_or symbols at 0) row) where
-    more : RowsBy table i first before (take (at + 1) symbols) after
+  module _ (at word : ℕ) (rows after : List (List ℕ)) (row : List ℕ) (T : Turn adds i first before symbols at word rows) (h : at < length symbols)
+      (sets : after ≡ set rows word row) (steps : EnteredBy adds (get_or rows word []) (get_or symbols at 0) row) where
+    more : RowsBy adds i first before (take (at + 1) symbols) after
     more e strength listed place p =
         sets
         ∙ ap (set rows word) (steps (in_row e) (long_row e strength) listed)
         ∙ ap (λ (r : List (List ℕ)). set r word (entered (in_row e) (get_or r word []) (get_or symbols at 0))) (T.done e strength listed place p)
         ∙ sym (entered-next (in_row e) i symbols place before at word h (T.next place p))
 
-    turned : (word' : ℕ) → word' < i → ((n : ℕ) → n % i ≡ word → (n + 1) % i ≡ word') → Turn table i first before symbols (at + 1) word' after
+    turned : (word' : ℕ) → word' < i → ((n : ℕ) → n % i ≡ word → (n + 1) % i ≡ word') → Turn adds i first before symbols (at + 1) word' after
     turned word' below moves =
         record {
           within = below;
@@ -97,14 +97,14 @@ module _ (table : List ℕ) (i first : ℕ) (before : List (List ℕ)) (symbols 
           done = more;
         }
 
-    pub turn_word : (word' : ℕ) → word' ≡ word + 1 → (word + 1 ≡ i → ⊥) → Turn table i first before symbols (at + 1) word' after
+    pub turn_word : (word' : ℕ) → word' ≡ word + 1 → (word + 1 ≡ i → ⊥) → Turn adds i first before symbols (at + 1) word' after
     turn_word word' p d = turned word' (omega (arith, T.within)) (λ n r. next_place_lem i n word r (omega (arith, T.within)) ∙ sym p)
 
-    pub turn_symbol : (word' : ℕ) → word' ≡ 0 → word + 1 ≡ i → Turn table i first before symbols (at + 1) word' after
+    pub turn_symbol : (word' : ℕ) → word' ≡ 0 → word + 1 ≡ i → Turn adds i first before symbols (at + 1) word' after
     turn_symbol word' p d = turned word' (omega arith) (λ n r. next_turn i n word r d ∙ sym p)
 
-  pub turn_end : (at word : ℕ) (rows : List (List ℕ)) → at ≡ length symbols → Turn table i first before symbols at word rows → RowsBy table i first before symbols rows
-  turn_end at word rows p T = subst (λ (list : List ℕ). RowsBy table i first before list rows) (ap (λ (n : ℕ). take n symbols) p ∙ take-length symbols) T.done
+  pub turn_end : (at word : ℕ) (rows : List (List ℕ)) → at ≡ length symbols → Turn adds i first before symbols at word rows → RowsBy adds i first before symbols rows
+  turn_end at word rows p T = subst (λ (list : List ℕ). RowsBy adds i first before list rows) (ap (λ (n : ℕ). take n symbols) p ∙ take-length symbols) T.done
 
 -- ---- a whole frame
 

@@ -8,9 +8,8 @@ use lib.ListN.{length, take, replicate, length-replicate}
 use lib.Seq.{take_at, take-append-add}
 use Rattle.refusals.specs.Order.{FirstOf}
 use Rattle.refusals.specs.Sizes.{information}
-use Rattle.refusals.specs.Numbers.{verdict_number}
+use Rattle.refusals.specs.Numbers.{Verdict, verdict_number}
 use Rattle.refusals.specs.Calls.{encode_order}
-use Rattle.refusals.specs.declared.Verdict.{Verdict}
 use Rattle.refusals.proofs.Settled.{encode_parameters_settled}
 use Rattle.codewords.specs.Words.{with_fill}
 use Rattle.codewords.proofs.Codewords.{checks_unique}

@@ -18,9 +18,9 @@ use Rattle.codewords.specs.Polynomials.{◌⊞◌}
 use Rattle.codewords.proofs.WordValues.{length_pair, length_snoc}
 use Rattle.refusals.specs.Order.{OneOf}
 use Rattle.refusals.specs.Sizes.{strengths}
-use Rattle.check_rows.specs.Rows.{column, added_at, Stepped}
-use Rattle.encoding.specs.Rows.{product, entered}
-use Rattle.encoding.specs.Working.{table_rows, EnteredBy}
+use Rattle.check_rows.specs.Rows.{column, added_at, table_at, SumTable, Stepped}
+use Rattle.encoding.specs.Rows.{product, entered, in_row}
+use Rattle.encoding.specs.Working.{table_rows, StrengthTable, AddsAs, EnteredBy}
 
 -- ---- a linear function of an octet is a matrix of its values at the eight bits
 
@@ -105,10 +105,11 @@ get_or-snoc (a ∷ u) zero = refl
 get_or-snoc (a ∷ u) (suc j) = get_or-snoc u j
 
 -- eight rows of a generator add its product with the feedback
-pub stepped_entered : (bits row : List ℕ) (symbol : ℕ) (after : List ℕ) → length row ≡ 32 → symbol ⊕ get_or row 0 0 < 256 → Stepped (added_at bits) row symbol after → EnteredBy bits row symbol after
+pub stepped_entered : (adds : ℕ → ℕ → ℕ) (row : List ℕ) (symbol : ℕ) (after : List ℕ) → length row ≡ 32 → symbol ⊕ get_or row 0 0 < 256 → Stepped adds row symbol after
+    → EnteredBy adds row symbol after
 unfolding entered
-stepped_entered bits [] symbol after size small S generator long listed = absurd (omega arith)
-stepped_entered bits (first ∷ row) symbol after size small S generator long listed =
+stepped_entered adds [] symbol after size small S generator long adds_as = absurd (omega arith)
+stepped_entered adds (first ∷ row) symbol after size small S generator long adds_as =
     ext_get_or 0 after (up ⊞ products) (S.size ∙ sym total) (λ j h. done j (omega (arith, S.size)))
   where
     up : List ℕ
@@ -121,15 +122,22 @@ stepped_entered bits (first ∷ row) symbol after size small S generator long li
     total =
         length_pair up products (length_snoc row 0 ∙ size ∙ sym long ∙ sym (length-map generator (product (symbol ⊕ first)))) ∙ length_snoc row 0 ∙ size
 
-    whole : (j : ℕ) → j < 32 → added_at bits (symbol ⊕ first) j ≡ get_or products j 0
+    whole : (j : ℕ) → j < 32 → adds (symbol ⊕ first) j ≡ get_or products j 0
     whole j h =
-        ap (λ (t : List ℕ). times_matrix (column t j 0 8) (symbol ⊕ first)) listed
+        adds_as (symbol ⊕ first) j small h
         ∙ ap (λ (t : List ℕ). times_matrix t (symbol ⊕ first)) (column_is generator eight_bits j long h)
         ∙ product_by_bits (symbol ⊕ first) (get_or generator j 0) small
         ∙ sym (get_or-map (product (symbol ⊕ first)) generator j (omega arith))
 
     done : (j : ℕ) → j < 32 → get_or after j 0 ≡ get_or (up ⊞ products) j 0
     done j h = S.octet j h ∙ ap₂ (λ (x y : ℕ). x ⊕ y) (sym (get_or-snoc row j)) (whole j h) ∙ sym (get_or-⊞ up products j)
+
+-- what the rows of a strength add, by eight rows and by the table of all sums
+pub bits_add : (e : ℕ) (bits : List ℕ) → StrengthTable e bits → AddsAs (added_at bits) (in_row e)
+bits_add e bits listed f j h l = ap (λ (t : List ℕ). added_at t f j) listed
+
+pub table_adds : (bits table generator : List ℕ) → AddsAs (added_at bits) generator → SumTable bits table → AddsAs (table_at table) generator
+table_adds bits table generator adds S f j h l = S.sums f j h l ∙ adds f j h l
 
 -- a strength that is not 8 is 16
 pub other_strength : (e : ℕ) → OneOf strengths e → (e ≡ 8 → ⊥) → e ≡ 16

@@ -1,9 +1,8 @@
 -- What encode promises (document 01, "Codewords", "Refusal numbers and the order of checks").
 use Rattle.std.specs.Prelude.{◌≡◌, ◌≢◌, List, ℕ, ◌<◌, length, take}
 use Rattle.refusals.specs.Order.{FirstOf}
-use Rattle.refusals.specs.Numbers.{verdict_number}
+use Rattle.refusals.specs.Numbers.{Verdict, verdict_number}
 use Rattle.refusals.specs.Calls.{encode_order}
-use Rattle.refusals.specs.declared.Verdict.{Verdict}
 use Rattle.codewords.specs.Words.{Codeword}
 use Rattle.encoding.specs.Blocks.{word_of}
 

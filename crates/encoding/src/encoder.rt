@@ -1,6 +1,6 @@
 // Encoding of a whole frame: its words' checks, and the block with frame and checks.
 ghost use Rattle.std.specs.Prelude.{◌≡◌, List, ℕ, ◌+◌, ◌*◌, ◌≤◌, ◌<◌, length};
-ghost use Rattle.check_rows.specs.Rows.{SumTable};
+ghost use Rattle.check_rows.specs.Rows.{added_at};
 ghost use Rattle.refusals.specs.Order.{OneOf};
 ghost use Rattle.refusals.specs.Sizes.{strengths};
 ghost use Rattle.encoding.specs.Rows.{RowsOn, ChecksPut};
@@ -9,34 +9,31 @@ ghost use Rattle.encoding.specs.Outcome.{EncodeOutcome};
 
 use crate::table_8::TABLE_8;
 use crate::table_16::TABLE_16;
-use check_rows::{stepped_by_bits, stepped_by_table, table_of};
+use check_rows::{FeedbackRows, stepped, table_of};
 use octets::copy_front;
-use refusals::Verdict;
+use refusals::{Code, Parameter};
 
 // A row and a symbol by value, as octets that are known to be octets.
-fn entered_by_bits(bits: &[u8; 256], row: [u8; 32], symbol: u8) -> [u8; 32]
-    ensures { EnteredBy bits.now row symbol result }
+fn entered<R: FeedbackRows>(source: &R, row: [u8; 32], symbol: u8) -> [u8; 32]
+    ensures { EnteredBy (R.adds source.now) row symbol result }
 {
-    stepped_by_bits(bits, row, symbol)
-}
-
-fn entered_by_table(table: &[u8; 8192], row: [u8; 32], symbol: u8) -> [u8; 32]
-    ensures { (bits : List ℕ) → SumTable bits table.now → EnteredBy bits row symbol result }
-{
-    stepped_by_table(table, row, symbol)
+    stepped(source, row, symbol)
 }
 
 // The symbols enter in turn from word `first` on, whole frame or portion: a counter that starts anew spares a division for each symbol.
-// The eight rows come by value: of a local the compiler knows that no lent row is a part of it, and keeps it in registers.
-fn enter_few(bits: [u8; 256], rows: &mut [[u8; 32]; 8], first: usize, symbols: &[u8], depth: usize)
-    requires { (first < depth) × (depth ≤ 8) × (length rows.old ≡ 8) }
-    ensures { RowsBy bits depth first rows.old symbols.now rows.new }
+fn enter_by<R: FeedbackRows>(
+    source: &R,
+    rows: &mut [[u8; 32]; 8],
+    first: usize,
+    symbols: &[u8],
+    depth: usize,
+)
+    requires { (first < depth) × (depth ≤ 8) }
+    ensures { RowsBy (R.adds source.now) depth first rows.old symbols.now rows.new }
 {
     let mut word = first;
-    let n = symbols.len();
-    for at in 0..n {
-        let row = rows[word];
-        rows[word] = entered_by_bits(&bits, row, symbols[at]);
+    for symbol in symbols {
+        rows[word] = entered(source, rows[word], *symbol);
         word += 1;
         if word == depth {
             word = 0;
@@ -44,53 +41,40 @@ fn enter_few(bits: [u8; 256], rows: &mut [[u8; 32]; 8], first: usize, symbols: &
     }
 }
 
-// The same by the table of all 256 rows, which is built first.
-fn enter_many(bits: [u8; 256], rows: &mut [[u8; 32]; 8], first: usize, symbols: &[u8], depth: usize)
-    requires { (first < depth) × (depth ≤ 8) × (length rows.old ≡ 8) }
-    ensures { RowsBy bits depth first rows.old symbols.now rows.new }
+// The eight rows of a strength, for each of which one computed test is made.
+fn rows_of(e: u32) -> &'static [u8; 256]
+    requires { OneOf strengths e }
+    ensures { StrengthTable e result.now }
 {
-    let table = table_of(&bits);
-    let mut word = first;
-    let n = symbols.len();
-    for at in 0..n {
-        let row = rows[word];
-        rows[word] = entered_by_table(&table, row, symbols[at]);
-        word += 1;
-        if word == depth {
-            word = 0;
-        }
-    }
+    if e == 8 { &TABLE_8 } else { &TABLE_16 }
 }
 
-// The eight rows of each strength, for which one computed test is made.
-fn bits_8() -> [u8; 256]
-    ensures { StrengthTable 8 result }
+// The table is built here and not in `enter`, which would clear its 8,192 octets for a few symbols too.
+#[inline(never)]
+fn enter_many(
+    bits: &[u8; 256],
+    rows: &mut [[u8; 32]; 8],
+    first: usize,
+    symbols: &[u8],
+    depth: usize,
+)
+    requires { (first < depth) × (depth ≤ 8) }
+    ensures { RowsBy (added_at bits.now) depth first rows.old symbols.now rows.new }
 {
-    TABLE_8
+    enter_by(&table_of(bits), rows, first, symbols, depth);
 }
 
-fn bits_16() -> [u8; 256]
-    ensures { StrengthTable 16 result }
-{
-    TABLE_16
-}
-
-// For fewer symbols the table would take longer to build than it spares. The eight rows are handed on by one call only: each copies them.
+// For fewer symbols the table would take longer to build than it spares.
 pub(crate) fn enter(e: u32, rows: &mut [[u8; 32]; 8], first: usize, symbols: &[u8], depth: usize)
-    requires { OneOf strengths e × (first < depth) × (depth ≤ 8) × (length rows.old ≡ 8) }
+    requires { OneOf strengths e × (first < depth) × (depth ≤ 8) }
     ensures { RowsOn e depth first rows.old symbols.now rows.new }
 {
-    let few = symbols.len() < 100;
-    if e == 8 {
-        if few {
-            return enter_few(bits_8(), rows, first, symbols, depth);
-        }
-        return enter_many(bits_8(), rows, first, symbols, depth);
+    let bits = rows_of(e);
+    if symbols.len() < 100 {
+        enter_by(bits, rows, first, symbols, depth);
+    } else {
+        enter_many(bits, rows, first, symbols, depth);
     }
-    if few {
-        return enter_few(bits_16(), rows, first, symbols, depth);
-    }
-    enter_many(bits_16(), rows, first, symbols, depth)
 }
 
 // The checks follow the frame, interleaved as it is.
@@ -112,17 +96,14 @@ pub(crate) fn put_checks(rows: [[u8; 32]; 8], depth: usize, start: usize, block:
 }
 
 // Nothing is written before every check has passed: a refusal leaves the block as it was.
-pub fn encode(e: u32, depth: u32, fill: u32, frame: &[u8], block: &mut [u8]) -> Verdict
-    ensures { EncodeOutcome e depth fill frame.now block.old result block.new }
+pub fn encode(code: Code, frame: &[u8], block: &mut [u8]) -> Result<(), Parameter>
+    ensures { EncodeOutcome code.strength code.depth code.fill frame.now block.old result block.new }
 {
-    let verdict = refusals::encode_parameters(e, depth, fill, frame.len(), block.len());
-    if let Verdict::Refused(p) = verdict {
-        return Verdict::Refused(p);
-    }
-    let words = depth as usize;
+    refusals::encode_parameters(code, frame.len(), block.len())?;
+    let words = code.depth as usize;
     let mut rows = [[0u8; 32]; 8];
-    enter(e, &mut rows, 0, frame, words);
+    enter(code.strength, &mut rows, 0, frame, words);
     copy_front(frame, block);
     put_checks(rows, words, frame.len(), block);
-    Verdict::Accepted
+    Ok(())
 }

@@ -8,16 +8,7 @@ use crate::encoder::{enter, put_checks};
 fn may_enter(e: u32, first: usize, depth: usize) -> bool
     ensures { Tells result (MayEnter e depth first) }
 {
-    if !refusals::strength_legal(e) {
-        return false;
-    }
-    if first >= depth {
-        return false;
-    }
-    if depth > 8 {
-        return false;
-    }
-    true
+    refusals::strength_legal(e) && first < depth && depth <= 8
 }
 
 // The symbols enter in turn, the first of them the row of word `first`. The rows come and go by value: of an array behind a reference the
@@ -42,19 +33,7 @@ pub fn rows_entered(
 fn checks_fit(depth: usize, start: usize, block: usize) -> bool
     ensures { Tells result (ChecksFit depth start block) }
 {
-    if depth == 0 {
-        return false;
-    }
-    if depth > 8 {
-        return false;
-    }
-    if start > block {
-        return false;
-    }
-    if block - start > 32 * depth {
-        return false;
-    }
-    true
+    0 < depth && depth <= 8 && start <= block && block - start <= 32 * depth
 }
 
 // The rows interleaved, from octet `start` to the block's end.

@@ -1,6 +1,6 @@
 // The table of the generator of strength 16: for each bit of the feedback, top bit first, what that bit alone adds to
-// the 32 octets of a row. A constant, since to compute it would take 256 products in each call.
-pub(crate) const TABLE_16: [u8; 256] = [
+// the 32 octets of a row. Listed, since to compute it would take 256 products in each call.
+pub(crate) static TABLE_16: [u8; 256] = [
     51, 4, 147, 249, 193, 160, 13, 197, 148, 243, 15, 214, 147, 172, 228, 60, 228, 172, 147, 214,
     15, 243, 148, 197, 13, 160, 193, 249, 147, 4, 51, 128, 170, 6, 90, 5, 161, 240, 139, 167, 94,
     138, 8, 189, 90, 250, 150, 162, 150, 250, 90, 189, 8, 138, 94, 167, 139, 240, 161, 5, 90, 6,

@@ -1,6 +1,6 @@
 // The table of the generator of strength 8: for each bit of the feedback, top bit first, what that bit alone adds to
-// the 32 octets of a row. A constant, since to compute it would take 256 products in each call.
-pub(crate) const TABLE_8: [u8; 256] = [
+// the 32 octets of a row. Listed, since to compute it would take 256 products in each call.
+pub(crate) static TABLE_8: [u8; 256] = [
     148, 54, 146, 98, 182, 41, 22, 74, 22, 41, 182, 98, 146, 54, 148, 128, 0, 0, 0, 0, 0, 0, 0, 0,
     0, 0, 0, 0, 0, 0, 0, 0, 94, 45, 219, 83, 109, 61, 157, 239, 157, 61, 109, 83, 219, 45, 94, 64,
     0, 0, 0, 0, 0, 0, 0, 0, 0, 0, 0, 0, 0, 0, 0, 0, 175, 22, 237, 41, 54, 30, 78, 119, 78, 30, 54,

@@ -1,17 +1,11 @@
 -- `bit_row` copies one octet after another.
-use mathlib.Core.Path.{refl}
-use native.Mathlib.Omega.{arith}
-use Rattle.check_rows.proofs.Filling.{filled-start, filled_turn}
+use Rattle.std.proofs.Common.{rules, arith, ◌+◌, ◌*◌, get_or}
+use Rattle.check_rows.proofs.Made.{made_at}
 use Rattle.check_rows.proofs.table.bit_row.Goals as goal
 
-pub loop-j-init : goal.loop-j-init
-loop-j-init c = (omega arith, filled-start _ _ _)
-
-pub loop-j-preserved : goal.loop-j-preserved
-loop-j-preserved c = (
-  omega arith,
-  filled_turn _ _ _ c.loop-j.j _ _ _ (omega arith) (omega arith) refl refl c.loop-j.invariant.1,
-)
-
 pub returns : goal.returns
-returns c = record { size = c.loop-j.invariant.1.size; octet = λ j h. c.loop-j.invariant.1.done j (omega arith) (omega arith) }
+returns c =
+    record {
+      size = c.from_fn.ensures.items.long;
+      octet = λ j h. made_at _ (λ k. get_or c.args.rows.now (32 * c.args.bit + k) 0) _ _ 0 32 (λ q k y called. search rules) c.from_fn.ensures.items.each j (omega arith) (omega arith);
+    }

@@ -1,12 +1,9 @@
 -- `table_of` doubles the number of rows eight times: before bit b the first 2^b rows stand.
 use mathlib.Core.Path.{◌≡◌}
-use Prim.Native.Nat.{◌≤◌, ◌-◌, ◌^◌}
+use Prim.Native.Nat.{◌^◌}
 use lib.ListN.{length}
 use Rattle.check_rows.proofs.Tables.{Growing}
 use Rattle.check_rows.proofs.table.table_of.Given as goal
 
 abbrev pub invariant-loop-bit : goal.invariant-loop-bit
-invariant-loop-bit l = (l.bit ≤ 8) × (l.size ≡ 2 ^ l.bit) × (length l.table ≡ 8192) × Growing l.rows l.size l.table
-
-abbrev pub decreases-loop-bit : goal.decreases-loop-bit
-decreases-loop-bit l = 8 - l.bit
+invariant-loop-bit l = (length l.table ≡ 8192) × Growing l.rows (2 ^ l.bit) l.table

@@ -3,24 +3,28 @@
 use mathlib.Core.Path.{refl}
 use native.Mathlib.Omega.{arith}
 use lib.ListN.{length}
-use Rattle.refusals.proofs.Verdicts.{passed}
+use Rattle.std.proofs.lemmas.Result.{err_from_is_err_and}
 use Rattle.encoding.proofs.CodedBlocks.{EncodeLegal, encode_legal, checks_room, octets_known, checks_written, encode_refuses, encode_accepts}
 use Rattle.encoding.proofs.encoder.encode.Goals as goal
-use Rattle.encoding.proofs.encoder.encode.Goals.{In_default}
+use Rattle.encoding.proofs.encoder.encode.Goals.{In_ok-encode_parameters}
 
-legal : (c : In_default) → EncodeLegal c.args.e c.args.depth c.args.fill (length c.args.frame.now) (length c.args.block.now)
-legal c = search (encode_legal, passed)
+legal : (c : In_ok-encode_parameters) → EncodeLegal c.args.code.strength c.args.code.depth c.args.code.fill (length c.args.frame.now) (length c.args.block.now)
+legal c = encode_legal _ _ _ _ _ c.in_ok-encode_parameters.ensures
 
 -- refused for a parameter
-pub returns-in-Refused : goal.returns-in-Refused
-returns-in-Refused c = encode_refuses _ _ _ _ _ _ _ _ c.in-Refused.is c.encode_parameters-verdict.ensures refl
+pub returns-in_err-encode_parameters : goal.returns-in_err-encode_parameters
+returns-in_err-encode_parameters c =
+    let p = err_from_is_err_and c.from_residual.result c.from_residual.ensures.1 in
+    rw (p.1, p.2) (encode_refuses _ _ _ _ _ _ _ c.in_err-encode_parameters.ensures refl)
 
 -- accepted
 pub returns : goal.returns
-returns c = encode_accepts _ _ _ _ _ _ _ (search) (search passed) (search octets_known) (search checks_written) (search)
+returns c = encode_accepts _ _ _ _ _ _ _ c.in_ok-encode_parameters.ensures (search octets_known) (search checks_written) (search)
 
 pub enter-requires : goal.enter-requires
-enter-requires c = ((legal (goal.at.enter-requires c).In_default).words.strength, omega (arith, (legal (goal.at.enter-requires c).In_default).words.some), (legal (goal.at.enter-requires c).In_default).words.deep, refl)
+enter-requires c =
+    let l : EncodeLegal _ _ _ _ _ = legal (goal.at.enter-requires c).In_ok-encode_parameters in
+    (l.words.strength, omega (arith, l.words.some), l.words.deep)
 
 pub put_checks-requires : goal.put_checks-requires
-put_checks-requires c = checks_room _ _ _ c.args.frame.now c.args.block.now _ (legal (goal.at.put_checks-requires c).In_default) c.copy_front.ensures
+put_checks-requires c = checks_room _ _ _ c.args.frame.now c.args.block.now _ (legal (goal.at.put_checks-requires c).In_ok-encode_parameters) c.copy_front.ensures

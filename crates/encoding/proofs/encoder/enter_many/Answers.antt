@@ -1,29 +1,6 @@
--- `enter_many` builds the table, and lets each octet enter the row of its word: the rows are those that the octets so far have entered.
-use mathlib.Core.Path.{refl, ◌∙◌}
-use native.Mathlib.Omega.{arith}
-use lib.ListN.{length-set}
-use Rattle.encoding.proofs.RowTurns.{turn_start, turn_symbol, turn_word, turn_end}
-use borrow.Author.Rules.{rules}
+-- `enter_many`: the table adds what the eight rows do.
+use Rattle.encoding.proofs.StepTables.{table_adds}
 use Rattle.encoding.proofs.encoder.enter_many.Goals as goal
-use Rattle.encoding.proofs.encoder.enter_many.Goals.{then-word-depth, else-word-depth}
-
-pub loop-at-init : goal.loop-at-init
-loop-at-init c = (omega arith, omega arith, search rules, λ bits S. turn_start _ _ _ _ _ (search rules) (search rules))
-
-pub loop-at-preserved : goal.loop-at-preserved
-loop-at-preserved c =
-    let before = c.loop-at in (
-      omega arith,
-      elim c.if-word-depth.branch [
-        | then-word-depth w ↦ omega (arith, w.word-is)
-        | else-word-depth w ↦ omega (arith, w.word-is, w.if-word-depth.false)
-      ],
-      length-set before.rows before.word _ ∙ before.invariant.2,
-      λ bits S. elim c.if-word-depth.branch [
-        | then-word-depth w ↦ turn_symbol _ _ _ _ _ _ before.word _ _ _ (before.invariant.3 bits S) (omega arith) refl (c.entered_by_table.ensures bits S) _ w.word-is w.if-word-depth.true
-        | else-word-depth w ↦ turn_word _ _ _ _ _ _ before.word _ _ _ (before.invariant.3 bits S) (omega arith) refl (c.entered_by_table.ensures bits S) _ w.word-is w.if-word-depth.false
-      ],
-    )
 
 pub returns : goal.returns
-returns c = turn_end _ _ _ _ _ c.loop-at.at _ _ (omega arith) (c.loop-at.invariant.3 _ c.table_of-table.ensures)
+returns c = λ e strength adds. c.enter_by.ensures e strength (table_adds _ _ _ adds c.table_of.ensures)

@@ -3,7 +3,6 @@ use mathlib.Core.Path.{refl}
 use native.Mathlib.Omega.{arith}
 use Rattle.refusals.proofs.Orders.{denied, granted}
 use Rattle.encoding.specs.Rows.{MayEnter}
-use borrow.Author.Rules.{rules}
 use Rattle.encoding.proofs.steps.rows_entered.Goals as goal
 use Rattle.encoding.proofs.steps.rows_entered.Goals.{After-after-1}
 
@@ -19,7 +18,7 @@ returns-then-not-may_enter c =
     }
 
 pub enter-requires : goal.enter-requires
-enter-requires c = ((may c).strength, omega (arith, (may c).within), (may c).deep, search rules)
+enter-requires c = ((may c).strength, omega (arith, (may c).within), (may c).deep)
 
 -- entered
 pub returns : goal.returns
