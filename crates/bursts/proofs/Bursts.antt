@@ -1,4 +1,6 @@
 -- The burst figure: a received block that differs from the one sent only within a run of E x I symbols, or of 8 x (E x I - 1) + 1 bits, is corrected.
+use Rattle.reed_solomon.specs.Outcome.{Decoded, Delivered}
+use Rattle.std.specs.Prelude.{Ok, Err}
 use mathlib.Core.Path.{◌≡◌, refl, sym, ◌∙◌, subst}
 use mathlib.Core.Logic.{inl, inr}
 use mathlib.Core.List.{List, [], ◌∷◌, map}
@@ -13,8 +15,6 @@ use Rattle.refusals.specs.declared.Verdict.{Verdict}
 use Rattle.codewords.specs.Words.{Octets, differing}
 use Rattle.codewords.proofs.LineWords.{differing-front, differing-run}
 use Rattle.codewords.proofs.WordValues.{octet_at}
-use Rattle.reed_solomon.specs.declared.Decoded.{Decoded}
-use Rattle.reed_solomon.specs.declared.Decoded.TheVariants.{Delivered}
 use Rattle.encoding.specs.Blocks.{sent_from, word_of, sum}
 use Rattle.encoding.specs.Outcome.{EncodeOutcome}
 use Rattle.reed_solomon.specs.Outcome.{DecodeOutcome}

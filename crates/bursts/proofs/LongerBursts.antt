@@ -1,4 +1,6 @@
 -- The burst figure is sharp: after a burst of one symbol, or one bit, more, a block may not be delivered as the frame that was sent.
+use Rattle.reed_solomon.specs.Outcome.{Decoded, Delivered}
+use Rattle.std.specs.Prelude.{Ok, Err}
 use mathlib.Core.Path.{◌≡◌, refl, sym, ap, ap₂, ◌∙◌, subst}
 use mathlib.Core.Logic.{◌≢◌}
 use mathlib.Core.List.{List, [], ◌∷◌}
@@ -20,8 +22,6 @@ use Rattle.codewords.specs.Words.{Good, differing, with_fill}
 use Rattle.codewords.proofs.WordValues.{changed-octets}
 use Rattle.codewords.proofs.LineWords.{differing-front, differing-first}
 use Rattle.codewords.proofs.Codewords.{checks_unique, good_filled}
-use Rattle.reed_solomon.specs.declared.Decoded.{Decoded}
-use Rattle.reed_solomon.specs.declared.Decoded.TheVariants.{Delivered}
 use Rattle.encoding.specs.Blocks.{sent_from, word_of}
 use Rattle.encoding.specs.Outcome.{Coded, EncodeOutcome}
 use Rattle.reed_solomon.specs.Outcome.{Delivery, DecodeOutcome, decoded_number}

@@ -1,4 +1,6 @@
--- Every case of the table holds: (A) to (I) by computing, (G) to (I) also because the coder is settled; (J) and (K) because zeros are a codeword, the one within 16 symbols, and because
+-- Every case of the table holds: (A) to (I) by computing, (G) to (I) also because Rattle.reed_solomon.specs.Outcome.{Decoded, Delivered}
+use Rattle.std.specs.Prelude.{Ok, Err}
+use the coder is settled; (J) and (K) because zeros are a codeword, the one within 16 symbols, and because
 -- encode and decode are settled.
 use mathlib.Core.Path.{◌≡◌, refl, sym, ap, ◌∙◌, subst}
 use mathlib.Core.Logic.{inl, inr}
@@ -26,8 +28,6 @@ use Rattle.codewords.proofs.Codewords.{good_unique, good_more_allowance}
 use Rattle.codewords.proofs.LineWords.{differing-front}
 use Rattle.codewords.proofs.ZeroWords.{zero_word, zero_good}
 use Rattle.words.proofs.Arrays.{zero-at}
-use Rattle.reed_solomon.specs.declared.Decoded.{Decoded}
-use Rattle.reed_solomon.specs.declared.Decoded.TheVariants.{Delivered, Refused}
 use Rattle.encoding.specs.Blocks.{sent_from, word_of, sum}
 use Rattle.encoding.specs.Outcome.{EncodeOutcome}
 use Rattle.reed_solomon.specs.Outcome.{Delivery, Lost, DecodeOutcome}
@@ -158,8 +158,8 @@ module _ (before : List ℕ) (size : length before ≡ 1) where
         delivered = λ z. changed_delivery;
       }
 
-  changed_refuses : (s : ℕ) → s < 16 → Decodes 16 1 222 s changed_block before (Refused (NoCodeword 0)) (replicate 8 0) 0 before
-  changed_refuses s less = decodes s (Refused (NoCodeword 0)) (replicate 8 0) 0 before
+  changed_refuses : (s : ℕ) → s < 16 → Decodes 16 1 222 s changed_block before (Err (NoCodeword 0)) (replicate 8 0) 0 before
+  changed_refuses s less = decodes s (Err (NoCodeword 0)) (replicate 8 0) 0 before
       record {
         number = some_lost 16 1 222 s changed_block before (passes s (omega arith)) (0, omega arith, changed_lost s less);
         word = λ z. record { within = omega arith; lost = changed_lost s less; before = λ v h. absurd (omega arith) };

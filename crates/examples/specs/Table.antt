@@ -1,4 +1,6 @@
 -- The worked cases (A) to (K) in one table, and what each kind of case says (document 01, "Proved examples").
+use Rattle.reed_solomon.specs.Outcome.{Decoded, Delivered}
+use Rattle.std.specs.Prelude.{Ok, Err}
 use Rattle.std.specs.Prelude.{◌≡◌, List, [], ◌∷◌, ◌++◌, ℕ, zero, suc, length, drop, replicate}
 use Rattle.field.specs.Field.{◌·◌}
 use Rattle.field.specs.Line.{to_line, to_conventional}
@@ -12,8 +14,6 @@ use Rattle.refusals.specs.Sizes.{frame_length, block_length}
 use Rattle.refusals.specs.declared.Verdict.{Verdict}
 use Rattle.refusals.specs.declared.Verdict.TheVariants.{Accepted}
 use Rattle.refusals.specs.declared.WordRefusal.TheVariants.{NoCodeword}
-use Rattle.reed_solomon.specs.declared.Decoded.{Decoded}
-use Rattle.reed_solomon.specs.declared.Decoded.TheVariants.{Delivered, Refused}
 use Rattle.encoding.specs.Outcome.{EncodeOutcome}
 use Rattle.reed_solomon.specs.Outcome.{DecodeOutcome}
 
@@ -64,7 +64,7 @@ Holds (encoded_is e i q frame block) = (before : List ℕ) → length before ≡
 Holds (decoded_is e i q s block frame counts total) =
     (before : List ℕ) → length before ≡ frame_length e i q → Decodes e i q s block before Delivered counts total frame
 Holds (refused_by_ten e i q s block word) =
-    (before : List ℕ) → length before ≡ frame_length e i q → Decodes e i q s block before (Refused (NoCodeword word)) (replicate 8 0) 0 before
+    (before : List ℕ) → length before ≡ frame_length e i q → Decodes e i q s block before (Err (NoCodeword word)) (replicate 8 0) 0 before
 
 -- Every case of a list holds.
 abbrev pub AllHold : List Example → Type 0

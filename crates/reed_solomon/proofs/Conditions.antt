@@ -1,4 +1,6 @@
 -- The conditions of acceptance on encode and decode, of any outcome that their contracts permit, over all E, I, Q and s at once.
+use Rattle.reed_solomon.specs.Outcome.{Decoded, Delivered}
+use Rattle.std.specs.Prelude.{Ok, Err}
 use mathlib.Core.Path.{◌≡◌, sym, ap, ◌∙◌, subst}
 use mathlib.Core.Logic.{◌↔◌}
 use mathlib.Core.List.{List}
@@ -12,14 +14,12 @@ use Rattle.refusals.specs.Order.{FirstOf}
 use Rattle.refusals.specs.Sizes.{information}
 use Rattle.refusals.specs.Numbers.{verdict_number}
 use Rattle.refusals.specs.Calls.{encode_order, decode_parameters}
-use Rattle.refusals.specs.declared.Verdict.{Verdict}
+use Rattle.refusals.specs.Numbers.{Verdict}
 use Rattle.refusals.proofs.Orders.{Clear, accepted_clear, clear_accepted}
 use Rattle.refusals.proofs.Legal.{decode_numbers}
 use Rattle.codewords.specs.Words.{Good, differing}
 use Rattle.codewords.proofs.LineWords.{differing_symmetric}
 use Rattle.codewords.proofs.Codewords.{good_unique, good_more_allowance}
-use Rattle.reed_solomon.specs.declared.Decoded.{Decoded}
-use Rattle.reed_solomon.specs.declared.Decoded.TheVariants.{Delivered}
 use Rattle.encoding.specs.Blocks.{word_of, sent_from, sum}
 use Rattle.encoding.specs.Outcome.{Coded, EncodeOutcome}
 use Rattle.reed_solomon.specs.Outcome.{Delivery, DecodeOutcome, decoded_number, decoded_value}

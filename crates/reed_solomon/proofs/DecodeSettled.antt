@@ -1,4 +1,6 @@
 -- decode is settled: two outcomes that its contract permits for the same inputs are equal, answer, report and frame.
+use Rattle.reed_solomon.specs.Outcome.{Decoded}
+use Rattle.std.specs.Prelude.{Ok, Err}
 use mathlib.Core.Path.{◌≡◌, refl, sym, ap, ◌∙◌, subst}
 use mathlib.Core.List.{List}
 use Prim.Native.Nat.{ℕ, ◌≤◌}
@@ -9,8 +11,6 @@ use Rattle.refusals.specs.declared.Parameter.{Parameter}
 use Rattle.refusals.specs.declared.WordRefusal.TheVariants.{Parameters, NoCodeword}
 use Rattle.refusals.proofs.Settled.{parameter_known}
 use Rattle.refusals.proofs.Verdicts.{parameter_not_ten}
-use Rattle.reed_solomon.specs.declared.Decoded.{Decoded}
-use Rattle.reed_solomon.specs.declared.Decoded.TheVariants.{Delivered, Refused}
 use Rattle.reed_solomon.specs.Outcome.{LowestLost, DecodeOutcome, Delivery, decoded_number}
 use Rattle.reed_solomon.proofs.Deliveries.{LegalBlock, legal_block}
 use Rattle.reed_solomon.proofs.Deliverable.{delivered_is, Order, number_is, accepted_passed, same_counts, same_total, same-frame}
@@ -26,13 +26,13 @@ lowest_one e i q s block v w A B =
 module _ (e i q s : ℕ) (block before : List ℕ) where
   same_answer : (a b : Decoded) → decoded_number a ≡ decoded_number b → (c d : List ℕ) (m n : ℕ) (f g : List ℕ)
       → DecodeOutcome e i q s block before a c m f → DecodeOutcome e i q s block before b d n g → a ≡ b
-  same_answer Delivered b z c d m n f g x y = sym (delivered_is b (sym z))
-  same_answer (Refused r) Delivered z c d m n f g x y = delivered_is (Refused r) z
-  same_answer (Refused (Parameters p)) (Refused (Parameters o)) z c d m n f g x y = ap (λ (u : Parameter). Refused (Parameters u)) (parameter_known p o z)
-  same_answer (Refused (Parameters p)) (Refused (NoCodeword w)) z c d m n f g x y = absurd (parameter_not_ten p z)
-  same_answer (Refused (NoCodeword w)) (Refused (Parameters p)) z c d m n f g x y = absurd (parameter_not_ten p (sym z))
-  same_answer (Refused (NoCodeword v)) (Refused (NoCodeword w)) z c d m n f g x y =
-      ap (λ (u : ℕ). Refused (NoCodeword u)) (lowest_one e i q s block v w (x.word refl) (y.word refl))
+  same_answer (Ok done) b z c d m n f g x y = sym (delivered_is b (sym z))
+  same_answer (Err r) (Ok done) z c d m n f g x y = delivered_is (Err r) z
+  same_answer (Err (Parameters p)) (Err (Parameters o)) z c d m n f g x y = ap (λ (u : Parameter). Err (Parameters u)) (parameter_known p o z)
+  same_answer (Err (Parameters p)) (Err (NoCodeword w)) z c d m n f g x y = absurd (parameter_not_ten p z)
+  same_answer (Err (NoCodeword w)) (Err (Parameters p)) z c d m n f g x y = absurd (parameter_not_ten p (sym z))
+  same_answer (Err (NoCodeword v)) (Err (NoCodeword w)) z c d m n f g x y =
+      ap (λ (u : ℕ). Err (NoCodeword u)) (lowest_one e i q s block v w (x.word refl) (y.word refl))
 
   pub decode_settled : (a b : Decoded) (c d : List ℕ) (m n : ℕ) (f g : List ℕ) → DecodeOutcome e i q s block before a c m f → DecodeOutcome e i q s block before b d n g
       → (a ≡ b) × (c ≡ d) × (m ≡ n) × (f ≡ g)

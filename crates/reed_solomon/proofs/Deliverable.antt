@@ -1,4 +1,6 @@
 -- What any permitted outcome of decode says: which blocks are delivered, and that a delivery is settled.
+use Rattle.reed_solomon.specs.Outcome.{Decoded, Delivered}
+use Rattle.std.specs.Prelude.{Ok, Err}
 use mathlib.Core.Path.{◌≡◌, refl, sym, ap, ◌∙◌, subst}
 use mathlib.Core.Logic.{inl, inr}
 use mathlib.Core.List.{List}
@@ -17,16 +19,14 @@ use Rattle.refusals.proofs.Legal.{decode_numbers}
 use Rattle.refusals.proofs.Verdicts.{parameter_nonzero}
 use Rattle.codewords.specs.Words.{differing}
 use Rattle.codewords.proofs.Codewords.{good_unique, good_more_allowance}
-use Rattle.reed_solomon.specs.declared.Decoded.{Decoded}
-use Rattle.reed_solomon.specs.declared.Decoded.TheVariants.{Delivered, Refused}
 use Rattle.encoding.specs.Blocks.{word_of, sum}
 use Rattle.reed_solomon.specs.Outcome.{Delivery, Lost, decoded_number}
 
 -- Only a delivery has number 0.
 pub delivered_is : (a : Decoded) → decoded_number a ≡ 0 → a ≡ Delivered
-delivered_is Delivered z = refl
-delivered_is (Refused (Parameters p)) z = absurd (parameter_nonzero p z)
-delivered_is (Refused (NoCodeword w)) z = absurd (omega arith)
+delivered_is (Ok done) z = refl
+delivered_is (Err (Parameters p)) z = absurd (parameter_nonzero p z)
+delivered_is (Err (NoCodeword w)) z = absurd (omega arith)
 
 -- Some word is lost.
 abbrev pub SomeLost : ℕ → ℕ → ℕ → ℕ → List ℕ → Type 0

@@ -1,4 +1,6 @@
 -- What `decode` answers: refused for a parameter, refused for the lowest lost word, or delivered.
+use Rattle.reed_solomon.specs.Outcome.{Decoded, Delivered}
+use Rattle.std.specs.Prelude.{Ok, Err}
 use mathlib.Core.Path.{◌≡◌, refl, sym, ap, ◌∙◌, subst}
 use mathlib.Core.Logic.{inl, inr}
 use mathlib.Core.List.{List, []}
@@ -12,11 +14,10 @@ use Rattle.octets.specs.Copies.{copied_over}
 use Rattle.octets.proofs.Laws.{copied_fitting, copied_length}
 use Rattle.refusals.specs.Order.{OneOf, FirstOf}
 use Rattle.refusals.specs.Sizes.{strengths, information, frame_length, block_length}
-use Rattle.refusals.specs.Numbers.{verdict_number}
+use Rattle.refusals.specs.Numbers.{parameter_number}
 use Rattle.refusals.specs.Calls.{decode_parameters}
 use Rattle.refusals.specs.declared.Parameter.{Parameter}
-use Rattle.refusals.specs.declared.Verdict.{Verdict}
-use Rattle.refusals.specs.declared.Verdict.TheVariants as verdict
+use Rattle.refusals.specs.Numbers.{Verdict}
 use Rattle.refusals.specs.declared.WordRefusal.{WordRefusal}
 use Rattle.refusals.specs.declared.WordRefusal.TheVariants.{Parameters, NoCodeword}
 use Rattle.refusals.proofs.Orders.{Clear, accepted_clear, not_different, first_passes}
@@ -25,12 +26,10 @@ use Rattle.refusals.proofs.Legal.{LegalWords, legal_words, decode_numbers}
 use Rattle.words.proofs.Arrays.{zero-at}
 use Rattle.codewords.specs.Words.{Good, differing}
 use Rattle.codewords.proofs.LineWords.{differing_self}
-use Rattle.reed_solomon.specs.declared.Decoded.{Decoded}
-use Rattle.reed_solomon.specs.declared.Decoded.TheVariants.{Delivered, Refused}
 use Rattle.encoding.specs.Blocks.{sent_from, word_of, sum}
 use Rattle.encoding.specs.Rows.{no_rows, RowsOn}
 use Rattle.reed_solomon.specs.Outcome.{Delivery, LowestLost, DecodeOutcome}
-use Rattle.reed_solomon.specs.DecoderWorking.{Standing, WordRows, Fitting, HasCodeword, Repaired}
+use Rattle.reed_solomon.specs.DecoderWorking.{Standing, WordRows, Fitting, Sofar}
 use Rattle.encoding.proofs.Interleaving.{place-below, word_at}
 use Rattle.encoding.proofs.CodedBlocks.{checks_rows}
 use Rattle.reed_solomon.proofs.StandingChecks.{word_rows, standing_coded}
@@ -96,32 +95,12 @@ checks_of_words e i q s block frame rows f octets R =
 
 -- ---- the answers
 
--- a list that holds every word repaired, and the counts of them
-pub record AllGood (e i q s : ℕ) (block counts : List ℕ) : Type 0 where
-  pub repaired : List ℕ
-  pub delivery : Delivery e i q s block repaired counts (sum counts)
-  pub room : length repaired ≡ 2040
-  pub size : length counts ≡ 8
-
--- a refusal's answer, with the report all zero
-abbrev pub Refusal : WordRefusal → Decoded → List ℕ → ℕ → Type 0
-Refusal refusal a c t = (a ≡ Refused refusal) × (t ≡ 0) × (c ≡ replicate 8 0)
-
 module _ (e i q s : ℕ) (block frame : List ℕ) where
-  refused_as : (r : WordRefusal) (a : Decoded) (c : List ℕ) (t : ℕ) (after : List ℕ) → Refusal r a c t → after ≡ frame
-      → DecodeOutcome e i q s block frame (Refused r) (replicate 8 0) 0 frame → DecodeOutcome e i q s block frame a c t after
-  refused_as r a c t after same untouched O =
-      subst (λ (x : Decoded). DecodeOutcome e i q s block frame x c t after) (sym same.0)
-      (subst (λ (x : ℕ). DecodeOutcome e i q s block frame (Refused r) c x after) (sym same.1)
-      (subst (λ (x : List ℕ). DecodeOutcome e i q s block frame (Refused r) x 0 after) (sym same.2)
-      (subst (DecodeOutcome e i q s block frame (Refused r) (replicate 8 0) 0) (sym untouched) O)))
-
-  pub refuses_parameter : (a : Decoded) (c : List ℕ) (t : ℕ) (after : List ℕ) (v : Verdict) (p : Parameter) → v ≡ verdict.Refused p
-      → FirstOf (decode_parameters e i q s (length block) (length frame)) (verdict_number v) → Refusal (Parameters p) a c t → after ≡ frame → DecodeOutcome e i q s block frame a c t after
-  refuses_parameter a c t after v p is f same untouched =
-      refused_as (Parameters p) a c t after same untouched
+  pub refuses_parameter : (p : Parameter) → FirstOf (decode_parameters e i q s (length block) (length frame)) (parameter_number p)
+      → DecodeOutcome e i q s block frame (Err (Parameters p)) (replicate 8 0) 0 frame
+  refuses_parameter p f =
       record {
-        number = stopped _ (decode_parameters e i q s (length block) (length frame)) v p is f;
+        number = stopped _ (decode_parameters e i q s (length block) (length frame)) p f;
         word = λ ten. absurd (parameter_not_ten p ten);
         size = (refl, refl);
         refused = λ n. (refl, refl, refl);
@@ -129,10 +108,8 @@ module _ (e i q s : ℕ) (block frame : List ℕ) where
       }
 
   module _ (f : FirstOf (decode_parameters e i q s (length block) (length frame)) 0) where
-    pub refuses_word : (a : Decoded) (c : List ℕ) (t : ℕ) (after : List ℕ) (w : ℕ) → Refusal (NoCodeword w) a c t → after ≡ frame → LowestLost e i q s block w
-        → DecodeOutcome e i q s block frame a c t after
-    refuses_word a c t after w same untouched lowest =
-        refused_as (NoCodeword w) a c t after same untouched
+    pub refuses_word : (w : ℕ) → LowestLost e i q s block w → DecodeOutcome e i q s block frame (Err (NoCodeword w)) (replicate 8 0) 0 frame
+    refuses_word w lowest =
         record {
           number = first_passes (decode_parameters e i q s (length block) (length frame)) 10 (decode_numbers e i q s (length block) (length frame)) f
               (inl ((w, lowest.within, lowest.lost), refl));
@@ -142,41 +119,32 @@ module _ (e i q s : ℕ) (block frame : List ℕ) where
           delivered = λ z. absurd (omega arith);
         }
 
-  module _ (words : ℕ) (counts : List ℕ) (total len : ℕ) (repaired : List ℕ) (R : Repaired e i q s block words counts total len repaired) where
-    pub lowest_lost : words < i → LowestLost e i q s block words
-    lowest_lost h = record { within = h; lost = R.stopped h; before = λ v l. ((R.sofar.each v l).codeword, (R.sofar.each v l).good) }
-
-    pub frame_within : FirstOf (decode_parameters e i q s (length block) (length frame)) 0 → len ≡ 2040 → length frame ≤ length repaired
-    frame_within f room =
+    pub frame_within : (repaired : List ℕ) → length repaired ≡ 2040 → length frame ≤ length repaired
+    frame_within repaired room =
         let L : LegalBlock e i q s (length block) (length frame) = legal_block e i q s (length block) (length frame) f in
-        omega (arith, R.size, L.room, frame_most e i q L.words)
+        omega (arith, room, L.room, frame_most e i q L.words)
 
+  module _ (counts : List ℕ) (total : ℕ) (repaired : List ℕ) (R : Sofar e i q s block repaired counts total i) where
     -- every word is good, and the list holds them repaired
-    pub words_delivered : i ≤ words → Delivery e i q s block repaired counts (sum counts)
-    words_delivered h =
+    words_delivered : Delivery e i q s block repaired counts total
+    words_delivered =
         record {
           codewords = λ w. (chosen w).0;
           good = λ w l. ((chosen w).1 l).0;
           symbols = λ k w m l. ((chosen w).1 l).1 k m;
           count = λ w l. ((chosen w).1 l).2;
-          beyond = λ w l. R.sofar.beyond w (omega (arith, R.reached));
-          summed = refl;
+          beyond = R.beyond;
+          summed = R.summed;
         }
       where
-        each : (w : ℕ) → w < i → HasCodeword e i q s block w repaired (get_or counts w 0)
-        each w l = R.sofar.each w (omega arith)
-
         -- a codeword for every number, which is the word's for every word
         chosen : (w : ℕ) → (c : List ℕ) × (w < i → Good e q s (word_of i q block w) c
             × ((k : ℕ) → k < information e - q → get_or repaired (k * i + w) 0 ≡ get_or c (q + k) 0) × (get_or counts w 0 ≡ differing (word_of i q block w) c))
         chosen w =
             elim (dec_lt w i) [
-              | yes l ↦ ((each w l).codeword, λ m. ((each w l).good, (each w l).symbols, (each w l).count_is))
+              | yes l ↦ ((R.each w l).codeword, λ m. ((R.each w l).good, (R.each w l).symbols, (R.each w l).count_is))
               | no n ↦ ([], λ l. absurd (n l))
             ]
-
-    abbrev pub all_good : i ≤ words → len ≡ 2040 → AllGood e i q s block counts
-    all_good h room = record { repaired = repaired; delivery = words_delivered h; room = R.size ∙ room; size = R.sofar.size }
 
   -- a list that holds every word's information symbols is copied out
   module _ (f : FirstOf (decode_parameters e i q s (length block) (length frame)) 0) (repaired counts : List ℕ) (total : ℕ) (A : Delivery e i q s block repaired counts total)
@@ -216,12 +184,10 @@ module _ (e i q s : ℕ) (block frame : List ℕ) where
       delivered = λ z. D;
     }
 
-  pub delivers : FirstOf (decode_parameters e i q s (length block) (length frame)) 0 → (counts : List ℕ) (total : ℕ) (after : List ℕ) (A : AllGood e i q s block counts)
-      → total ≡ sum counts → after ≡ copied_over (take (length frame) A.repaired) frame → DecodeOutcome e i q s block frame Delivered counts total after
-  delivers f counts total after A summed is =
-      let L' : LegalBlock e i q s (length block) (length frame) = legal_block e i q s (length block) (length frame) f in
-      copied_out f A.repaired counts total (subst (Delivery e i q s block A.repaired counts) (sym summed) A.delivery)
-      (omega (arith, A.room, L'.room, frame_most e i q L'.words)) A.size after is
+  pub delivers : FirstOf (decode_parameters e i q s (length block) (length frame)) 0 → (repaired counts : List ℕ) (total : ℕ) → Sofar e i q s block repaired counts total i
+      → length repaired ≡ 2040 → (after : List ℕ) → after ≡ copied_over (take (length frame) repaired) frame → DecodeOutcome e i q s block frame Delivered counts total after
+  delivers f repaired counts total R room after is =
+      copied_out f repaired counts total (words_delivered counts total repaired R) (frame_within f repaired room) R.size after is
 
 -- ---- a block that is coded as it stands is delivered as it stands
 
@@ -250,10 +216,6 @@ module _ (e i q s : ℕ) (block frame : List ℕ) (f : FirstOf (decode_parameter
         summed = sum_zeros 8;
       }
 
-  pub delivers_coded : (a : Decoded) (c : List ℕ) (t : ℕ) (after : List ℕ) → (a ≡ Delivered) × (t ≡ 0) × (c ≡ replicate 8 0) → after ≡ copied_over (take (length frame) block) frame
-      → DecodeOutcome e i q s block frame a c t after
-  delivers_coded a c t after same is =
-      subst (λ (x : Decoded). DecodeOutcome e i q s block frame x c t after) (sym same.0)
-      (subst (λ (x : ℕ). DecodeOutcome e i q s block frame Delivered c x after) (sym same.1)
-      (subst (λ (x : List ℕ). DecodeOutcome e i q s block frame Delivered x 0 after) (sym same.2)
-      (copied_out e i q s block frame f block (replicate 8 0) 0 as_it_stands (coded_room e i q s (length block) (length frame) f).2 refl after is)))
+  pub delivers_coded : (after : List ℕ) → after ≡ copied_over (take (length frame) block) frame → DecodeOutcome e i q s block frame Delivered (replicate 8 0) 0 after
+  delivers_coded after is =
+      copied_out e i q s block frame f block (replicate 8 0) 0 as_it_stands (coded_room e i q s (length block) (length frame) f).2 refl after is

@@ -1,4 +1,6 @@
 -- The five fakes of document 01 ("What acceptance looks for"): no outcome that the contracts permit is one of them.
+use Rattle.reed_solomon.specs.Outcome.{Decoded}
+use Rattle.std.specs.Prelude.{Ok, Err}
 use mathlib.Core.Path.{◌≡◌, refl, sym, ap₂, ◌∙◌, subst}
 use mathlib.Core.Logic.{◌≢◌}
 use mathlib.Core.List.{List, [], ◌∷◌}
@@ -9,10 +11,9 @@ use Rattle.refusals.specs.Order.{FirstOf}
 use Rattle.refusals.specs.Sizes.{information, frame_length}
 use Rattle.refusals.specs.Numbers.{verdict_number}
 use Rattle.refusals.specs.Calls.{encode_order}
-use Rattle.refusals.specs.declared.Verdict.{Verdict}
+use Rattle.refusals.specs.Numbers.{Verdict}
 use Rattle.codewords.specs.Words.{Good, differing}
 use Rattle.codewords.proofs.LineWords.{differing_self}
-use Rattle.reed_solomon.specs.declared.Decoded.{Decoded}
 use Rattle.encoding.specs.Blocks.{word_of, sum}
 use Rattle.encoding.specs.Outcome.{EncodeOutcome}
 use Rattle.reed_solomon.specs.Outcome.{DecodeOutcome, decoded_number}

@@ -1,5 +1,7 @@
 -- What any permitted outcome of salvage says, over all E, I, Q and s at once: each word stands alone, a larger allowance keeps what was repaired, all words
 -- together are decode, and the list tells all.
+use Rattle.reed_solomon.specs.Outcome.{Decoded, Delivered}
+use Rattle.std.specs.Prelude.{Ok, Err}
 use mathlib.Core.Path.{◌≡◌, refl, sym, ap, ◌∙◌, subst}
 use mathlib.Core.Logic.{◌↔◌, inl, inr}
 use mathlib.Core.List.{List, []}
@@ -11,9 +13,7 @@ use Rattle.refusals.specs.Order.{FirstOf}
 use Rattle.refusals.specs.Sizes.{information}
 use Rattle.refusals.specs.Numbers.{verdict_number}
 use Rattle.refusals.specs.Calls.{decode_parameters, salvage_order}
-use Rattle.refusals.specs.declared.Verdict.{Verdict}
-use Rattle.reed_solomon.specs.declared.Decoded.{Decoded}
-use Rattle.reed_solomon.specs.declared.Decoded.TheVariants.{Delivered}
+use Rattle.refusals.specs.Numbers.{Verdict}
 use Rattle.encoding.specs.Blocks.{sent_from, word_of, sum}
 use Rattle.reed_solomon.specs.Outcome.{Delivery, DecodeOutcome, decoded_number}
 use Rattle.reed_solomon.specs.Changes.{changes_from, applied, Tells}

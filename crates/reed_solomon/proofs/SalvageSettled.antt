@@ -10,7 +10,7 @@ use lib.Seq.{ext_get_or}
 use Rattle.refusals.specs.Order.{FirstOf}
 use Rattle.refusals.specs.Numbers.{verdict_number}
 use Rattle.refusals.specs.Calls.{salvage_order}
-use Rattle.refusals.specs.declared.Verdict.{Verdict}
+use Rattle.refusals.specs.Numbers.{Verdict}
 use Rattle.refusals.proofs.Settled.{salvage_parameters_settled}
 use Rattle.codewords.specs.Words.{differing, with_fill}
 use Rattle.codewords.proofs.Codewords.{good_unique, good_more_allowance}

@@ -9,13 +9,13 @@ use lib.Seq.{get_or-take, length-take-le, take_all, take-take}
 use Rattle.octets.specs.Copies.{copied_over}
 use Rattle.octets.proofs.Laws.{copied_length, copied_front}
 use Rattle.refusals.specs.Order.{FirstOf}
-use Rattle.refusals.specs.Numbers.{verdict_number}
+use Rattle.refusals.specs.Numbers.{parameter_number}
 use Rattle.refusals.specs.Calls.{decode_parameters, salvage_order}
 use Rattle.refusals.specs.declared.Parameter.{Parameter}
-use Rattle.refusals.specs.declared.Verdict.{Verdict}
-use Rattle.refusals.specs.declared.Verdict.TheVariants.{Accepted, Refused}
+use Rattle.refusals.specs.Numbers.{Verdict}
+use Rattle.std.specs.Prelude.{Ok, Err}
 use Rattle.refusals.proofs.Legal.{accepted_salvage}
-use Rattle.refusals.proofs.Verdicts.{parameter_nonzero, same_verdict}
+use Rattle.refusals.proofs.Verdicts.{parameter_nonzero}
 use Rattle.codewords.proofs.LineWords.{differing_self}
 use Rattle.words.proofs.Arrays.{zero-at}
 use Rattle.encoding.specs.Blocks.{sent_from, word_of}
@@ -45,15 +45,14 @@ module _ (e i q s block frame list : ℕ) (f : FirstOf (salvage_order e i q s bl
 -- ---- the answers
 
 module _ (e i q s : ℕ) (block before listed : List ℕ) where
-  pub salvage_refuses : (v : Verdict) (p : Parameter) → v ≡ Refused p → FirstOf (salvage_order e i q s (length block) (length before) (length listed)) (verdict_number v)
-      → (a : Verdict) (marks counts : List ℕ) (entries : ℕ) → (a ≡ Refused p) × (marks ≡ replicate 8 0) × (counts ≡ replicate 8 0) × (entries ≡ 0)
-      → SalvageOutcome e i q s block before listed a marks counts entries before listed
-  salvage_refuses v p is f a marks counts entries none =
+  pub salvage_refuses : (p : Parameter) → FirstOf (salvage_order e i q s (length block) (length before) (length listed)) (parameter_number p)
+      → SalvageOutcome e i q s block before listed (Err p) (replicate 8 0) (replicate 8 0) 0 before listed
+  salvage_refuses p f =
       record {
-        number = same_verdict (salvage_order e i q s (length block) (length before) (length listed)) v a (is ∙ sym none.0) f;
-        size = (refl, refl, ap length none.1, ap length none.2);
-        refused = λ n. (refl, refl, none.1, none.2, none.3);
-        salvaged = λ z. absurd (parameter_nonzero p (ap verdict_number (sym none.0) ∙ z));
+        number = f;
+        size = (refl, refl, refl, refl);
+        refused = λ n. (refl, refl, refl, refl, refl);
+        salvaged = λ z. absurd (parameter_nonzero p z);
       }
 
   module _ (f : FirstOf (salvage_order e i q s (length block) (length before) (length listed)) 0) where
@@ -101,7 +100,7 @@ module _ (e i q s : ℕ) (block before listed : List ℕ) where
           (omega (arith, (salvage_legal e i q s (length block) (length before) (length listed) f).received, place-below i (0 + j) (255 - q) w (omega arith) h))))
 
       pub salvages : (frame list : List ℕ) (entries : ℕ) → frame ≡ copied_over (take (length before) mended) before → Listed block part listed (length block) entries list
-          → SalvageOutcome e i q s block before listed Accepted marks counts entries frame list
+          → SalvageOutcome e i q s block before listed (Ok tt) marks counts entries frame list
       salvages frame list entries copied C =
           record {
             number = f;
@@ -132,30 +131,27 @@ module _ (e i q s : ℕ) (block before listed : List ℕ) where
     no_changes at (x ∷ octets) = ap {B = List ℕ} (λ (l : List ℕ). l ++ changes_from (suc at) octets octets) (change_none at x x refl) ∙ no_changes (suc at) octets
 
     module _ (octets : (m : ℕ) → get_or block m 0 < 256) (rows : List (List ℕ)) (R : RowsOn e i 0 no_rows (take (length before) block) rows) (S : Standing rows i (length before) block) where
-      pub salvages_coded : (a : Verdict) (marks counts : List ℕ) (entries : ℕ) (frame : List ℕ) → (a ≡ Accepted) × MarksSet i marks × (counts ≡ replicate 8 0) × (entries ≡ 0)
-          → frame ≡ copied_over (take (length before) block) before → SalvageOutcome e i q s block before listed a marks counts entries frame listed
-      salvages_coded a marks counts entries frame told copied =
+      pub salvages_coded : (marks frame : List ℕ) → MarksSet i marks → frame ≡ copied_over (take (length before) block) before
+          → SalvageOutcome e i q s block before listed (Ok tt) marks (replicate 8 0) 0 frame listed
+      salvages_coded marks frame told copied =
           record {
-            number = subst (λ (v : Verdict). FirstOf (salvage_order e i q s (length block) (length before) (length listed)) (verdict_number v)) (sym told.0) f;
-            size = (front.0, refl, told.1.size, ap length told.2);
-            refused = λ n. absurd (n (ap verdict_number told.0));
+            number = f;
+            size = (front.0, refl, told.size, refl);
+            refused = λ n. absurd (n refl);
             salvaged = λ z. record {
               repaired = block;
               size = refl;
               words = λ w h. inl (record {
-                marked = told.1.marked w h;
+                marked = told.marked w h;
                 good = standing_good e i q s block before (salvage_decodes e i q s (length block) (length before) (length listed) f) octets rows R S w h;
-                counted = zero_count w ∙ sym (differing_self (word_of i q block w));
+                counted = zero-at 8 w ∙ sym (differing_self (word_of i q block w));
               });
-              beyond = λ w h. (told.1.beyond w h, zero_count w);
+              beyond = λ w h. (told.beyond w h, zero-at 8 w);
               front = front.1;
-              entered = ap (λ (n : ℕ). 4 * n) told.3 ∙ ap length (sym (no_changes 0 block));
-              told = ap {B = List ℕ} (λ (n : ℕ). drop (4 * n) listed) (sym told.3) ∙ ap {B = List ℕ} (λ (l : List ℕ). l ++ drop (4 * entries) listed) (sym (no_changes 0 block));
+              entered = ap length (sym (no_changes 0 block));
+              told = ap {B = List ℕ} (λ (l : List ℕ). l ++ drop 0 listed) (sym (no_changes 0 block));
             };
           }
         where
           front : (length frame ≡ length before) × (frame ≡ take (length frame) block)
           front = front_copied block frame room.2 copied
-
-          zero_count : (w : ℕ) → get_or counts w 0 ≡ 0
-          zero_count w = ap (λ (c : List ℕ). get_or c w 0) told.2 ∙ zero-at 8 w

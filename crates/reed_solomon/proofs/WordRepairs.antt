@@ -1,5 +1,6 @@
 -- A word of a block and its repair: the symbols sent, the codeword found for them, and the places that they take in a frame.
 use mathlib.Core.Path.{◌≡◌, refl, sym, ap, ap₂, ◌∙◌, subst}
+use mathlib.Core.Logic.{inl, inr}
 use mathlib.Core.Bool.{Bool, true, false}
 use mathlib.Core.List.{List, [], ◌∷◌, ◌++◌}
 use Prim.Native.Nat.{ℕ, zero, suc, ◌+◌, ◌-◌, ◌*◌, ◌≤◌, ◌<◌}
@@ -9,7 +10,9 @@ use native.Mathlib.Decide.{dec_lt, ℕ_discrete}
 use lib.Bits.{bit_xor}
 use lib.ListN.{length, take, get_or, set, replicate, length-set, length-append, length-replicate, get_or-append}
 use lib.Seq.{get_or-take, get_or-append-add, get_or-set_same, get_or-set_other, ext_get_or, length-take-le}
-use Rattle.refusals.specs.Sizes.{information}
+use Rattle.std.specs.Prelude.{IsTrue, ◌==◌, ◌||◌}
+use Rattle.refusals.specs.Order.{OneOf}
+use Rattle.refusals.specs.Sizes.{strengths, information}
 use Rattle.refusals.proofs.Legal.{strength_bounds}
 use Rattle.field.specs.Field.{◌⊕◌}
 use Rattle.field.proofs.Sum.{⊕_is, zero-⊕, ⊕-norm}
@@ -21,9 +24,21 @@ use Rattle.words.proofs.Arrays.{zero-at}
 use Rattle.words.proofs.Coefficients.{at-⊞}
 use Rattle.words.proofs.OutcomesAdded.{outcome_⊞}
 use Rattle.encoding.specs.Blocks.{sent_from, sum}
-use Rattle.reed_solomon.specs.Outcome.{Lost}
+use Rattle.reed_solomon.specs.declared.given.Given.{Given}
+use Rattle.reed_solomon.specs.Outcome.{Lost, LowestLost}
 use Rattle.reed_solomon.specs.DecoderWorking.{CodedBy, Difference, Put, Fitting, HasCodeword, WordRepaired, Sofar}
 use Rattle.encoding.proofs.Interleaving.{sent-length, sent_symbol}
+
+-- ---- what a call is given fits
+
+strength_is : (e : ℕ) → IsTrue (e == 8 || e == 16) → OneOf strengths e
+strength_is e h = elim (ℕ_discrete e 8) [
+  | yes is ↦ inl is
+  | no other ↦ inr (inl (grind arith))
+]
+
+pub fits : (g : Given) → Fitting g.strength g.depth g.fill g.allowance g.block.now
+fits g = record { strength = strength_is g.strength g.strong; allowance = g.allowed; some = g.some; deep = g.deep; filled = g.filled; received = g.received }
 
 -- ---- symbols of a repaired word
 
@@ -202,8 +217,9 @@ module _ (e i q s : ℕ) (block : List ℕ) where
           count_is = (S.each v l).count_is;
         }
 
-    pub sofar_stops : Sofar e i q s block after counts total w
-    sofar_stops = record { each = kept; beyond = S.beyond; summed = S.summed; size = S.size }
+    -- the lowest word that is lost: those before it have their codewords
+    pub lowest_lost : found ≡ false → LowestLost e i q s block w
+    lowest_lost n = record { within = h; lost = R.when_not n; before = λ v l. ((S.each v l).codeword, (S.each v l).good) }
 
     pub sofar_turn : i ≤ 8 → found ≡ true → Sofar e i q s block after (set counts w count) (total + count) (w + 1)
     sofar_turn deep y =

@@ -62,10 +62,3 @@ pub record Sofar (e i q s : ℕ) (block frame counts : List ℕ) (total w : ℕ)
   pub beyond : (v : ℕ) → w ≤ v → get_or counts v 0 ≡ 0
   pub summed : total ≡ sum counts
   pub size : length counts ≡ 8
-
--- All words up to the first that is lost.
-pub record Repaired (e i q s : ℕ) (block : List ℕ) (words : ℕ) (counts : List ℕ) (total len : ℕ) (after : List ℕ) : Type 0 where
-  pub reached : words ≤ i
-  pub sofar : Sofar e i q s block after counts total words
-  pub stopped : words < i → Lost e i q s block words
-  pub size : length after ≡ len

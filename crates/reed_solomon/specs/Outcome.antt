@@ -1,11 +1,11 @@
 -- What decode promises (document 01, "Codewords", "Refusal numbers and the order of checks").
-use Rattle.std.specs.Prelude.{◌≡◌, ◌≢◌, List, ℕ, ◌+◌, ◌-◌, ◌*◌, ◌≤◌, ◌<◌, length, get_or, replicate}
+use Rattle.std.specs.Prelude.{◌≡◌, ◌≢◌, ⊤, Result, Ok, Err, List, ℕ, ◌+◌, ◌-◌, ◌*◌, ◌≤◌, ◌<◌, length, get_or, replicate}
 use Rattle.refusals.specs.Order.{FirstOf}
 use Rattle.refusals.specs.Sizes.{information}
 use Rattle.refusals.specs.Numbers.{word_number, word_value}
 use Rattle.refusals.specs.Calls.{decode_order}
-use Rattle.reed_solomon.specs.declared.Decoded.{Decoded}
-use Rattle.reed_solomon.specs.declared.Decoded.TheVariants.{Delivered, Refused}
+use Rattle.refusals.specs.declared.WordRefusal.{WordRefusal}
+use Rattle.reed_solomon.specs.declared.Decoding.{Decoding}
 use Rattle.codewords.specs.Words.{Good, differing}
 use Rattle.encoding.specs.Blocks.{word_of, sum}
 
@@ -29,14 +29,34 @@ pub record LowestLost (e i q s : ℕ) (block : List ℕ) (w : ℕ) : Type 0 wher
   pub lost : Lost e i q s block w
   pub before : (v : ℕ) → v < w → (codeword : List ℕ) × Good e q s (word_of i q block v) codeword
 
+-- Decode's answer: the block is delivered, or refused.
+abbrev pub Decoded : Type 0
+Decoded = Result ⊤ WordRefusal
+
+abbrev pub Delivered : Decoded
+Delivered = Ok tt
+
+-- The answer in what decode gives back, and what that reports: the counts of eight words and their total, all zero on a refusal.
+abbrev pub answer_of : Result Decoding WordRefusal → Decoded
+answer_of (Ok decoding) = Delivered
+answer_of (Err r) = Err r
+
+abbrev pub counts_of : Result Decoding WordRefusal → List ℕ
+counts_of (Ok decoding) = decoding.counts
+counts_of (Err r) = replicate 8 0
+
+abbrev pub total_of : Result Decoding WordRefusal → ℕ
+total_of (Ok decoding) = decoding.total
+total_of (Err r) = 0
+
 -- The answer's number and value, as document 01 gives them; 0 is delivered.
 abbrev pub decoded_number : Decoded → ℕ
-decoded_number Delivered = 0
-decoded_number (Refused r) = word_number r
+decoded_number (Ok done) = 0
+decoded_number (Err r) = word_number r
 
 abbrev pub decoded_value : Decoded → ℕ
-decoded_value Delivered = 0
-decoded_value (Refused r) = word_value r
+decoded_value (Ok done) = 0
+decoded_value (Err r) = word_value r
 
 -- Decode checks in its order, 10 if some word is lost, the lowest of them named. After a refusal the frame is as it was and the
 -- report is all zero.

@@ -1,9 +1,10 @@
 -- What salvage promises: each word repaired or left as received, and a list of the octets that changed (document 02, (vii)).
-use Rattle.std.specs.Prelude.{◌≡◌, ◌≢◌, ◌⊎◌, List, ◌++◌, ℕ, ◌-◌, ◌*◌, ◌≤◌, ◌<◌, length, take, drop, get_or, replicate}
+use Rattle.std.specs.Prelude.{◌≡◌, ◌≢◌, ◌⊎◌, Result, Ok, Err, List, ◌++◌, ℕ, ◌-◌, ◌*◌, ◌≤◌, ◌<◌, length, take, drop, get_or, replicate}
 use Rattle.refusals.specs.Order.{FirstOf}
-use Rattle.refusals.specs.Numbers.{verdict_number}
+use Rattle.refusals.specs.Numbers.{Verdict, verdict_number}
 use Rattle.refusals.specs.Calls.{salvage_order}
-use Rattle.refusals.specs.declared.Verdict.{Verdict}
+use Rattle.refusals.specs.declared.Parameter.{Parameter}
+use Rattle.reed_solomon.specs.declared.SalvageReport.{SalvageReport}
 use Rattle.codewords.specs.Words.{Good, differing, with_fill}
 use Rattle.encoding.specs.Blocks.{sent_from}
 use Rattle.reed_solomon.specs.Changes.{changes_from}
@@ -35,6 +36,19 @@ pub record Salvaged (e i q s : ℕ) (block marks counts : List ℕ) (entries : �
   pub front : frame ≡ take (length frame) repaired
   pub entered : 4 * entries ≡ length (changes_from 0 block repaired)
   pub told : list ≡ changes_from 0 block repaired ++ drop (4 * entries) listed
+
+-- What salvage reports: the marks and counts of eight words, and how many entries the list has; all zero on a refusal.
+abbrev pub marks_of : Result SalvageReport Parameter → List ℕ
+marks_of (Ok report) = report.marks
+marks_of (Err p) = replicate 8 0
+
+abbrev pub repairs_of : Result SalvageReport Parameter → List ℕ
+repairs_of (Ok report) = report.counts
+repairs_of (Err p) = replicate 8 0
+
+abbrev pub entries_of : Result SalvageReport Parameter → ℕ
+entries_of (Ok report) = report.entries
+entries_of (Err p) = 0
 
 -- Salvage checks in its order. After a refusal frame and list are as they were, and marks, counts and entries are zero.
 pub record SalvageOutcome (e i q s : ℕ) (block before listed : List ℕ) (answer : Verdict) (marks counts : List ℕ) (entries : ℕ) (frame list : List ℕ) : Type 0 where

@@ -1,147 +1,79 @@
 // Decoding of a whole block: one pass over it gives each word the checks that its information symbols would have; by what those received differ
 // from them its errors are found; and the frame is written only once the last word is known to be good.
-ghost use Rattle.std.specs.Prelude.{◌≡◌, ◌≤◌, ◌<◌, length, replicate};
-ghost use Rattle.reed_solomon.specs.declared.Decoded.TheVariants as decoded;
-ghost use Rattle.reed_solomon.specs.Outcome.{DecodeOutcome};
-ghost use Rattle.reed_solomon.specs.DecoderWorking.{Fitting, CodedBy, WordRows, WordRepaired, Repaired};
+ghost use Rattle.std.specs.Prelude.{◌≡◌, ◌≤◌, ◌<◌, ℕ, length, is_some, unwrap_or, MatchResult};
+ghost use Rattle.refusals.specs.declared.WordRefusal.TheVariants.{NoCodeword};
+ghost use Rattle.reed_solomon.specs.Outcome.{answer_of, counts_of, total_of, LowestLost, DecodeOutcome};
+ghost use Rattle.reed_solomon.specs.DecoderWorking.{CodedBy, WordRows, WordRepaired, Sofar};
 
-use crate::finding::word_errors;
+use crate::Decoding;
+use crate::given::{Given, word_errors};
 use crate::recoding::{front_rows, has_checks};
 use crate::symbols::put_repaired;
-use crate::{Decoded, Decoding};
 use octets::copy_front;
-use refusals::{Verdict, WordRefusal};
+use refusals::{Code, WordRefusal};
 
-#[derive(Clone, Copy)]
-struct WordRepair {
-    found: bool,
-    count: u32,
-}
-
-// Word w repaired into its places of the frame, or not found.
-fn repair_word(
-    e: u32,
-    depth: usize,
-    fill: usize,
-    s: u32,
-    block: &[u8],
-    w: usize,
-    row: [u8; 32],
-    frame: &mut [u8],
-) -> WordRepair
-    requires { Fitting e depth fill s block.now × (2040 ≤ length frame.old) × (w < depth) × CodedBy e depth fill block.now w row }
-    ensures { WordRepaired e depth fill s block.now w frame.old result.found result.count frame.new }
+// Word w repaired into its places of the frame, and how many of its symbols differ, if it has a codeword.
+fn repair_word(given: &Given<'_>, w: usize, row: &[u8; 32], frame: &mut [u8]) -> Option<u32>
+    requires { (2040 ≤ length frame.old) × (w < given.now.depth) × CodedBy given.now.strength given.now.depth given.now.fill given.now.block.now w row.now }
+    ensures { WordRepaired given.now.strength given.now.depth given.now.fill given.now.allowance given.now.block.now w frame.old (is_some result) (unwrap_or result 0) frame.new }
 {
-    let answer = word_errors(e, depth, fill, s, block, w, row);
-    let found = answer.found;
-    if !found {
-        return WordRepair {
-            found: false,
-            count: 0,
-        };
-    }
-    let errors = answer.errors;
-    let symbols = 255 - fill - 2 * (e as usize);
-    put_repaired(block, &errors, depth, w, symbols, frame);
-    WordRepair {
-        found: true,
-        count: answer.count,
-    }
+    let found = word_errors(given, w, row)?;
+    let symbols = 255 - given.fill - 2 * (given.strength as usize);
+    put_repaired(given.block, &found.errors, given.depth, w, symbols, frame);
+    Some(found.count)
 }
 
-// How many words from the first on are good, and their counts.
-#[derive(Clone, Copy)]
-struct Repair {
-    words: usize,
-    total: u32,
-    counts: [u8; 8],
-}
-
+// All words repaired into the frame, or the lowest that is lost.
 fn repair_words(
-    e: u32,
-    depth: usize,
-    fill: usize,
-    s: u32,
-    block: &[u8],
-    rows: [[u8; 32]; 8],
+    given: &Given<'_>,
+    rows: &[[u8; 32]; 8],
     frame: &mut [u8],
-) -> Repair
-    requires { Fitting e depth fill s block.now × (2040 ≤ length frame.old) × WordRows e depth fill block.now rows }
-    ensures { Repaired e depth fill s block.now result.words result.counts result.total (length frame.old) frame.new }
+) -> Result<Decoding, WordRefusal>
+    requires { (2040 ≤ length frame.old) × WordRows given.now.strength given.now.depth given.now.fill given.now.block.now rows.now }
+    ensures size { length frame.new ≡ length frame.old }
+    ensures words { MatchResult result (λ d. Sofar given.now.strength given.now.depth given.now.fill given.now.allowance given.now.block.now frame.new d.counts d.total given.now.depth) (λ r. (w : ℕ) × (r ≡ NoCodeword w) × LowestLost given.now.strength given.now.depth given.now.fill given.now.allowance given.now.block.now w) }
 {
     let mut counts = [0u8; 8];
     let mut total: u32 = 0;
-    for w in 0..depth {
-        let row = rows[w];
-        let word = repair_word(e, depth, fill, s, block, w, row, frame);
-        let found = word.found;
-        if !found {
-            return Repair {
-                words: w,
-                total: total,
-                counts: counts,
-            };
-        }
-        let count = word.count;
+    for w in 0..given.depth {
+        let Some(count) = repair_word(given, w, &rows[w], frame) else {
+            return Err(WordRefusal::NoCodeword(w as u32));
+        };
         counts[w] = count as u8;
-        total = total + count;
+        total += count;
     }
-    Repair {
-        words: depth,
-        total: total,
-        counts: counts,
-    }
-}
-
-fn refused(refusal: WordRefusal) -> Decoding
-    ensures { (result.answer ≡ decoded.Refused refusal) × (result.total ≡ 0) × (result.counts ≡ replicate 8 0) }
-{
-    let none = [0u8; 8];
-    Decoding {
-        answer: Decoded::Refused(refusal),
-        total: 0,
-        counts: none,
-    }
-}
-
-// Delivered as received: nothing differs.
-fn as_received() -> Decoding
-    ensures { (result.answer ≡ decoded.Delivered) × (result.total ≡ 0) × (result.counts ≡ replicate 8 0) }
-{
-    let none = [0u8; 8];
-    Decoding {
-        answer: Decoded::Delivered,
-        total: 0,
-        counts: none,
-    }
+    Ok(Decoding { total, counts })
 }
 
 // A block that is coded as it stands needs no look at its words one by one.
-pub fn decode(e: u32, depth: u32, fill: u32, s: u32, block: &[u8], frame: &mut [u8]) -> Decoding
-    ensures { DecodeOutcome e depth fill s block.now frame.old result.answer result.counts result.total frame.new }
+pub fn decode(
+    code: Code,
+    s: u32,
+    block: &[u8],
+    frame: &mut [u8],
+) -> Result<Decoding, WordRefusal>
+    ensures { DecodeOutcome code.strength code.depth code.fill s block.now frame.old (answer_of result) (counts_of result) (total_of result) frame.new }
 {
-    let verdict = refusals::decode_parameters(e, depth, fill, s, block.len(), frame.len());
-    if let Verdict::Refused(p) = verdict {
-        return refused(WordRefusal::Parameters(p));
-    }
-    let words = depth as usize;
+    refusals::decode_parameters(code, s, block.len(), frame.len())?;
+    let depth = code.depth as usize;
     let n = frame.len();
-    let rows = front_rows(e, words, n, block);
-    if has_checks(&rows, words, n, block) {
+    let rows = front_rows(code.strength, depth, n, block);
+    if has_checks(&rows, depth, n, block) {
         copy_front(&block[..n], frame);
-        return as_received();
+        return Ok(Decoding {
+            total: 0,
+            counts: [0; 8],
+        });
     }
+    let given = Given {
+        strength: code.strength,
+        depth,
+        fill: code.fill as usize,
+        allowance: s,
+        block,
+    };
     let mut repaired = [0u8; 2040];
-    let repair = repair_words(e, words, fill as usize, s, block, rows, &mut repaired);
-    let good = repair.words;
-    if good < words {
-        return refused(WordRefusal::NoCodeword(good as u32));
-    }
+    let decoding = repair_words(&given, &rows, &mut repaired)?;
     copy_front(&repaired[..n], frame);
-    let counts = repair.counts;
-    Decoding {
-        answer: Decoded::Delivered,
-        total: repair.total,
-        counts: counts,
-    }
+    Ok(decoding)
 }

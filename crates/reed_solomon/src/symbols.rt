@@ -13,7 +13,7 @@ fn octet_of(k: usize, depth: usize, w: usize) -> usize
 // What the checks of word w, from the first to the n-th symbol, differ by from a row of checks, behind zeros: the word less the codeword with
 // its information symbols and that row.
 pub(crate) fn difference(
-    row: [u8; 32],
+    row: &[u8; 32],
     block: &[u8],
     depth: usize,
     w: usize,
@@ -21,7 +21,7 @@ pub(crate) fn difference(
     n: usize,
 ) -> [u8; 255]
     requires { (first ≤ n) × (n ≤ 255) × (n ≤ first + 32) × (depth ≤ 8) × (w < depth) × (n * depth ≤ length block.now) }
-    ensures { Difference row depth block.now w first n result }
+    ensures { Difference row.now depth block.now w first n result }
 {
     let mut rest = [0u8; 255];
     for k in first..n {

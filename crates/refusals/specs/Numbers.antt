@@ -27,6 +27,11 @@ abbrev pub verdict_number : Verdict → ℕ
 verdict_number (Ok done) = 0
 verdict_number (Err p) = parameter_number p
 
+-- The verdict of an answer that, if the call is accepted, gives something with it.
+abbrev pub verdict_of : {A : Type 0} → Result A Parameter → Verdict
+verdict_of (Ok given) = Ok tt
+verdict_of (Err p) = Err p
+
 -- Refusal 9 carries the wrong bits, refusal 10 the word; the others carry nothing.
 abbrev pub marker_number : MarkerRefusal → ℕ
 marker_number (marker.Parameters p) = parameter_number p
