@@ -18,9 +18,9 @@ pub fn mul(a: u8, b: u8) -> u8
     let mut shifted = a;
     let mut left = b;
     for _ in 0usize..8 {
-        sum = sum ^ left % 2 * shifted;
+        sum ^= left % 2 * shifted;
         shifted = times_alpha(shifted);
-        left = left >> 1;
+        left >>= 1;
     }
     sum
 }

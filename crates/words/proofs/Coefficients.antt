@@ -1,13 +1,13 @@
 -- Polynomials coefficient by coefficient, as arrays hold them with zeros above: the loops that pair and multiply.
 use mathlib.Core.Path.{◌≡◌, refl, sym, ap, ap₂, ◌∙◌}
-use mathlib.Core.List.{List, [], ◌∷◌}
+use mathlib.Core.List.{List, [], ◌∷◌, ◌++◌, append-nil}
 use Prim.Native.Nat.{ℕ, zero, suc, ◌+◌, ◌-◌, ◌≤◌, ◌<◌}
 use native.Mathlib.Nat.{not-suc-le-zero, zero-add, suc-add, add-zero, add-suc, le_of_suc-le-suc, add-sub_of_le}
 use native.Mathlib.Omega.{arith}
 use native.Mathlib.Decide.{dec_lt}
 use native.Mathlib.Numerals.{add-one}
 use lib.ListN.{length, get_or, take, drop, set, length-take, length-drop, drop_of_length-le, replicate, get_or-eq_default}
-use lib.Seq.{drop-cons, get_or-drop, get_or-take, take_all}
+use lib.Seq.{drop-cons, get_or-drop, get_or-take, take_all, length-take-le}
 use lib.Bits.{bit_xor}
 use Rattle.field.specs.Field.{◌⊕◌, ◌·◌}
 use Rattle.field.proofs.Sum.{⊕_is, ⊕_assoc, ⊕-zero, zero-⊕}
@@ -177,3 +177,13 @@ pub by_root_turn : (z : ℕ) (p moved out : List ℕ) (j product : ℕ) → Fill
     → Filled (by_root_at z p) 33 (set out j (bit_xor (get_or moved j 0) product)) (j + 1)
 unfolding by_root_at terms
 by_root_turn z p moved out j product F h M f = sum_turn (by_root_at z p) 33 out j (get_or moved j 0) product F h (ap₂ (λ (u v : ℕ). u ⊕ v) (M.each j h) f)
+
+-- the coefficients copied one place up
+pub by_root_made : (z : ℕ) (p copy out : List ℕ) → length p ≡ 33 → copy ≡ take 32 p
+    → Filled (λ i. bit_xor (get_or (0 ∷ (copy ++ [])) i 0) (z · get_or p i 0)) 33 out 33 → Filled (by_root_at z p) 33 out 33
+unfolding by_root_at shift_by
+by_root_made z p copy out size e F = record { size = F.size; each = λ i l. F.each i l ∙ sym (⊕_is (get_or (0 ∷ (copy ++ [])) i 0) (z · get_or p i 0)) ∙ ap (λ (x : ℕ). x ⊕ z · get_or p i 0) (below i l) }
+  where
+    below : (i : ℕ) → i < 33 → get_or (0 ∷ (copy ++ [])) i 0 ≡ get_or (0 ∷ p) i 0
+    below zero l = refl
+    below (suc i) l = rw (append-nil copy) (ap (λ (t : List ℕ). get_or t i 0) e ∙ get_or-take 32 p i 0 (omega (arith, length-take-le 32 p (omega arith))))

@@ -1,11 +1,14 @@
 -- Laws of the loops that decode a word, and what its outcome settles.
 pub mod Arrays
+pub mod Made
+pub mod Copies
 pub mod Coefficients
 pub mod FromTop
 pub mod RegisterTurns
 pub mod Conversions
 pub mod WordSums
 pub mod RowTurns
+pub mod Tables
 pub mod Thirds
 pub mod MarkedProducts
 pub mod RootsFound

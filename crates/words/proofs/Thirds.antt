@@ -16,7 +16,7 @@ use Rattle.field.proofs.Product.{·-ac, ⊕-·, ring, ·-zero, ·-lt, ·_one_oct
 use Rattle.field.proofs.Powers.{pow-lt, pow-add, pow-mul}
 use Rattle.codewords.specs.Polynomials.{eval}
 use Rattle.codewords.specs.Locators.{beta, X}
-use Rattle.words.specs.Working.{Filled, later_at, horner_at, power_of_each, values_from, InThirds, Joined, RowPut}
+use Rattle.words.specs.Working.{Filled, later_at, product_at, horner_at, power_of_each, values_from, InThirds, Joined, RowPut}
 use Rattle.words.proofs.Arrays.{filled_starts, filled_turn, zero-at}
 use Rattle.words.proofs.Coefficients.{eval-drop}
 use Rattle.words.proofs.RowTurns.{later_is, pow-times}
@@ -170,6 +170,29 @@ joined_turn {a} {second} {third} {z} {square} {here} {further} {furthest} i b c 
 
     turned_is : turned ≡ 0xAB · (get_or z i 0 · get_or second i 0 ⊕ get_or square i 0 · get_or third i 0)
     turned_is = r ∙ ap (λ (x : ℕ). 0xAB · x) (sym (⊕_is b c) ∙ ap₂ (λ (x y : ℕ). x ⊕ y) p q)
+
+-- ---- three rows of sums
+
+-- with the rows b = z second, c = square third, and these summed and turned
+pub rows_joined : {a second third z square here further furthest : List ℕ} (b c turned : List ℕ) → Filled (product_at z second) 16 b 16 → Filled (product_at square third) 16 c 16
+    → Filled (λ i. 0xAB · bit_xor (get_or b i 0) (get_or c i 0)) 16 turned 16
+    → Filled (λ i. bit_xor (bit_xor (get_or a i 0) (get_or b i 0)) (get_or c i 0)) 16 here 16
+    → Filled (λ i. bit_xor (bit_xor (get_or a i 0) (get_or c i 0)) (get_or turned i 0)) 16 further 16
+    → Filled (λ i. bit_xor (bit_xor (get_or a i 0) (get_or b i 0)) (get_or turned i 0)) 16 furthest 16
+    → Joined a second third z square here further furthest 16
+unfolding product_at
+rows_joined {a} {second} {third} {z} {square} {here} {further} {furthest} b c turned B C T H R S =
+    record {
+      here_is = record { size = H.size; each = λ i l. H.each i l ∙ sum_is i (get_or b i 0) (get_or c i 0) ∙ ap₂ (λ (x y : ℕ). get_or a i 0 ⊕ x ⊕ y) (B.each i l) (C.each i l) };
+      further_is = record { size = R.size; each = λ i l. R.each i l ∙ sum_is i (get_or c i 0) (get_or turned i 0) ∙ ap₂ (λ (x y : ℕ). get_or a i 0 ⊕ x ⊕ y) (C.each i l) (turned_is i l) };
+      furthest_is = record { size = S.size; each = λ i l. S.each i l ∙ sum_is i (get_or b i 0) (get_or turned i 0) ∙ ap₂ (λ (x y : ℕ). get_or a i 0 ⊕ x ⊕ y) (B.each i l) (turned_is i l) };
+    }
+  where
+    sum_is : (i x y : ℕ) → bit_xor (bit_xor (get_or a i 0) x) y ≡ get_or a i 0 ⊕ x ⊕ y
+    sum_is i x y = sym (ap (λ (w : ℕ). w ⊕ y) (⊕_is (get_or a i 0) x) ∙ ⊕_is (bit_xor (get_or a i 0) x) y)
+
+    turned_is : (i : ℕ) → i < 16 → get_or turned i 0 ≡ 0xAB · (get_or z i 0 · get_or second i 0 ⊕ get_or square i 0 · get_or third i 0)
+    turned_is i l = T.each i l ∙ ap (λ (x : ℕ). 0xAB · x) (sym (⊕_is (get_or b i 0) (get_or c i 0)) ∙ ap₂ (λ (x y : ℕ). x ⊕ y) (B.each i l) (C.each i l))
 
 -- ---- a row put in place
 

@@ -1,6 +1,7 @@
 -- What the decoding of one word answers (document 01, "Sizes", "Codewords").
-use Rattle.std.specs.Prelude.{◌≡◌, Bool, true, false, List, [], ◌∷◌, ℕ, ◌-◌, ◌*◌, ◌≤◌, ◌<◌, length, drop, replicate}
+use Rattle.std.specs.Prelude.{◌≡◌, Bool, true, false, Option, Some, None, List, [], ◌∷◌, ℕ, ◌-◌, ◌*◌, ◌≤◌, ◌<◌, length, drop, replicate}
 use Rattle.field.specs.Field.{◌⊕◌}
+use Rattle.words.specs.declared.WordErrors.{WordErrors}
 use Rattle.refusals.specs.Order.{OneOf}
 use Rattle.refusals.specs.Sizes.{strengths}
 use Rattle.codewords.specs.Words.{differing, with_fill, Good}
@@ -40,3 +41,12 @@ pub record WordOutcome (e s : ℕ) (sent : List ℕ) (found : Bool) (count : ℕ
   pub size : length errors ≡ 255
   pub when_found : found ≡ true → Found e s sent count errors
   pub when_not : found ≡ false → NotFound e s sent count errors
+
+-- What an answer tells, found or not: how many symbols differ, and the errors.
+abbrev pub count_told : Option WordErrors → ℕ
+count_told (Some found) = found.count
+count_told None = 0
+
+abbrev pub errors_told : Option WordErrors → List ℕ
+errors_told (Some found) = found.errors
+errors_told None = replicate 255 0

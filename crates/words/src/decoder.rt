@@ -1,70 +1,59 @@
 // One word as conventional octets, with marks for symbols that are doubtful.
-ghost use Rattle.std.specs.Prelude.{◌≡◌, true, false, ℕ, ◌+◌, ◌≤◌, ◌<◌, get_or, length};
+ghost use Rattle.std.specs.Prelude.{◌≡◌, true, ℕ, ◌+◌, ◌≤◌, ◌<◌, get_or, length, is_some};
 ghost use Rattle.codewords.specs.Locators.{weight};
 ghost use Rattle.words.specs.Working.{DecidedBy};
+ghost use Rattle.words.specs.Decision.{errors_decided, unmarked_decided};
 
 use crate::errors::all_errors;
 use crate::marks::{times_marks, unmarked_locator};
 use crate::roots::find_roots;
-use crate::syndromes::all_zero;
 
-// Whether a codeword is good; what to add to the symbols to have it; how many unmarked symbols differ.
+// What to add to the symbols to have a good codeword; how many unmarked symbols differ.
 #[derive(Clone, Copy)]
 pub(crate) struct Decision {
-    pub(crate) found: bool,
     pub(crate) errors: [u8; 255],
     pub(crate) unmarked: usize,
-}
-
-// Not found, or found with nothing to correct.
-fn without_errors(found: bool) -> Decision
-    ensures { (result.found ≡ found) × (result.unmarked ≡ 0) × (length result.errors ≡ 255) × ((i : ℕ) → get_or result.errors i 0 ≡ 0) }
-{
-    let none: [u8; 255] = [0; 255];
-    Decision {
-        found: found,
-        errors: none,
-        unmarked: 0,
-    }
 }
 
 // Nothing is marked and no syndrome tells of an error.
 fn untouched(s: &[u8], f: usize) -> bool
     ensures { result ≡ true → (f ≡ 0) × ((i : ℕ) → i < length s.now → get_or s.now i 0 ≡ 0) }
 {
-    if f != 0 {
-        return false;
-    }
-    all_zero(s)
+    f == 0 && s.iter().all(|sum| *sum == 0)
 }
 
 // Errors are looked for: with f marks, and the syndromes from the m-th power of beta on.
-fn with_errors_found(marks: &[u8], f: usize, sums: &[u8], m: usize, e: usize, s: usize) -> Decision
+fn errors_found(
+    marks: &[u8],
+    f: usize,
+    sums: &[u8],
+    m: usize,
+    e: usize,
+    s: usize,
+) -> Option<Decision>
     requires { (length marks.now ≤ 255) × (m ≤ 128) × (s ≤ e) × (e ≤ 16) × (f ≡ weight marks.now) × (f ≤ s + s) × (length sums.now ≡ e + e) }
-    ensures { (result.unmarked ≤ s) × DecidedBy m e s marks.now sums.now result.found result.errors result.unmarked }
+    ensures { (unmarked_decided result ≤ s) × DecidedBy m e s marks.now sums.now (is_some result) (errors_decided result) (unmarked_decided result) }
 {
     let locator = unmarked_locator(sums, marks, f);
     let len = locator.len;
-    let sigma = locator.sigma;
     if len + len + f > s + s {
-        return without_errors(false);
+        return None;
     }
-    let lambda = times_marks(sigma, marks, f);
+    let lambda = times_marks(locator.sigma, marks, f);
     let parts = (len + f + 3) / 3;
     let size = 3 * parts;
     let roots = find_roots(&lambda[..size], parts, marks.len());
     if roots.count != len + f {
-        return without_errors(false);
+        return None;
     }
-    let errors = all_errors(sums, &lambda[..size], marks.len(), m, roots);
-    Decision {
-        found: true,
-        errors: errors,
+    Some(Decision {
+        errors: all_errors(sums, &lambda[..size], marks.len(), m, roots),
         unmarked: len,
-    }
+    })
 }
 
-// A word with f marks, of strength e, whose code vanishes from the m-th power of beta on, with allowance s, by its syndromes there alone.
+// A word with f marks, of strength e, whose code vanishes from the m-th power of beta on, with allowance s, by its syndromes there alone: what
+// makes it a good codeword, or none if there is no good one.
 pub(crate) fn decode_word(
     marks: &[u8],
     f: usize,
@@ -72,15 +61,18 @@ pub(crate) fn decode_word(
     m: usize,
     e: usize,
     s: usize,
-) -> Decision
+) -> Option<Decision>
     requires { (length marks.now ≤ 255) × (f ≡ weight marks.now) × (m ≤ 128) × (s ≤ e) × (e ≤ 16) × (length sums.now ≡ e + e) }
-    ensures { (result.unmarked ≤ s) × DecidedBy m e s marks.now sums.now result.found result.errors result.unmarked }
+    ensures { (unmarked_decided result ≤ s) × DecidedBy m e s marks.now sums.now (is_some result) (errors_decided result) (unmarked_decided result) }
 {
     if f > s + s {
-        return without_errors(false);
+        return None;
     }
     if untouched(sums, f) {
-        return without_errors(true);
+        return Some(Decision {
+            errors: [0; 255],
+            unmarked: 0,
+        });
     }
-    with_errors_found(marks, f, sums, m, e, s)
+    errors_found(marks, f, sums, m, e, s)
 }

@@ -1,11 +1,12 @@
 // The errors at the roots of a word's locator polynomial, for 16 roots at a time.
-ghost use Rattle.std.specs.Prelude.{◌≡◌, ◌+◌, ◌*◌, ◌%◌, ◌≤◌, min, length, replicate};
+ghost use Rattle.std.specs.Prelude.{◌≡◌, ◌+◌, ◌*◌, ◌%◌, ◌≤◌, replicate};
 ghost use Rattle.words.specs.Working.{Filled, terms, locator_power, error_at_each, CoefficientTaken, HoldsDivision, HoldsRoots, AreRoots, Placed, HoldsPlaces};
 
 use crate::inverses::inverses;
-use crate::locators::locators;
+use crate::locators::LOCATORS;
 use crate::roots::Roots;
-use crate::rows::{row_from, times};
+use crate::rows::{row_from, times, with_symbol};
+use std::array;
 
 // Which power of beta the m-th power of a locator is: they come round after 255.
 fn times_round(power: u8, m: usize) -> usize
@@ -20,15 +21,10 @@ fn locator_powers(powers: &[u8; 16], m: usize) -> [u8; 16]
     requires { m ≤ 128 }
     ensures { Filled (locator_power powers.now m) 16 result 16 }
 {
-    let list = locators();
-    let mut out: [u8; 16] = [0; 16];
-    for i in 0..16 {
-        let at = times_round(powers[i], m);
-        out[i] = list[at];
-    }
-    out
+    array::from_fn(|i| LOCATORS[times_round(powers[i], m)])
 }
 
+// A list as a sequence, zero past its end.
 fn term(s: &[u8], j: usize) -> u8
     ensures { result ≡ terms s.now j }
 {
@@ -52,53 +48,26 @@ fn with_coefficient(
     syndrome: u8,
     coefficient: u8,
 ) -> Division
-    requires { (length before.above ≡ 16) × (length before.below ≡ 16) × (length before.rest ≡ 16) }
     ensures { CoefficientTaken locators.now before.above before.below before.rest syndrome coefficient result.above result.below result.rest 16 }
 {
-    let above = before.above;
-    let below = before.below;
-    let rest = before.rest;
-    let mut more_above: [u8; 16] = [0; 16];
-    let mut more_below: [u8; 16] = [0; 16];
-    let mut more_rest: [u8; 16] = [0; 16];
-    for i in 0..16 {
-        let paired = field::mul(syndrome, rest[i]);
-        let value = field::mul(locators[i], below[i]);
-        let carried = field::mul(locators[i], rest[i]);
-        more_above[i] = paired ^ above[i];
-        more_below[i] = value ^ rest[i];
-        more_rest[i] = carried ^ coefficient;
-    }
+    let Division { above, below, rest } = before;
     Division {
-        above: more_above,
-        below: more_below,
-        rest: more_rest,
-    }
-}
-
-fn undivided() -> Division
-    ensures { (result.above ≡ replicate 16 0) × (result.below ≡ replicate 16 0) × (result.rest ≡ replicate 16 0) }
-{
-    let above: [u8; 16] = [0; 16];
-    let below: [u8; 16] = [0; 16];
-    let rest: [u8; 16] = [0; 16];
-    Division {
-        above: above,
-        below: below,
-        rest: rest,
+        above: array::from_fn(|i| field::mul(syndrome, rest[i]) ^ above[i]),
+        below: array::from_fn(|i| field::mul(locators[i], below[i]) ^ rest[i]),
+        rest: with_symbol(&rest, locators, coefficient),
     }
 }
 
 fn divided(s: &[u8], lambda: &[u8], locators: &[u8; 16]) -> Division
     ensures { HoldsDivision s.now lambda.now locators.now result.above result.below }
 {
-    let mut division = undivided();
-    let mut j = lambda.len();
-    while j > 0 {
-        j -= 1;
-        let syndrome = term(s, j);
-        let more = with_coefficient(division, locators, syndrome, lambda[j]);
-        division = more;
+    let mut division = Division {
+        above: [0; 16],
+        below: [0; 16],
+        rest: [0; 16],
+    };
+    for j in (0..lambda.len()).rev() {
+        division = with_coefficient(division, locators, term(s, j), lambda[j]);
     }
     division
 }
@@ -110,12 +79,10 @@ fn errors_at(s: &[u8], lambda: &[u8], powers: &[u8; 16], m: usize) -> [u8; 16]
 {
     let locators = locator_powers(powers, 1);
     let q = divided(s, lambda, &locators);
-    let above = q.above;
-    let below = q.below;
     let shift = locator_powers(powers, m);
-    let divisor = times(&below, &shift);
+    let divisor = times(&q.below, &shift);
     let inverse = inverses(&divisor);
-    times(&above, &inverse)
+    times(&q.above, &inverse)
 }
 
 // The errors at the roots from the first-th on, some of 16, put at their places among len.
@@ -135,17 +102,11 @@ fn with_errors(
     let row = row_from(powers, first);
     let errors = errors_at(s, lambda, &row, m);
     let mut out = before;
-    for c in 0..some {
-        let place = len - 1 - row[c] as usize;
+    for (c, power) in row[..some].iter().enumerate() {
+        let place = len - 1 - *power as usize;
         out[place] = errors[c];
     }
     out
-}
-
-fn at_most_a_row(count: usize) -> usize
-    ensures { result ≡ min count 16 }
-{
-    if count < 16 { count } else { 16 }
 }
 
 // The errors of all places of len sent symbols: those at the roots, elsewhere none. More than 16 roots there are only with marks.
@@ -153,11 +114,8 @@ pub(crate) fn all_errors(s: &[u8], lambda: &[u8], len: usize, m: usize, roots: R
     requires { (len ≤ 255) × (m ≤ 128) × (roots.count ≤ 32) × HoldsRoots lambda.now len roots.count roots.powers }
     ensures { HoldsPlaces s.now lambda.now len m result }
 {
-    let powers = roots.powers;
-    let count = roots.count;
-    let none: [u8; 255] = [0; 255];
-    let some = at_most_a_row(count);
-    let out = with_errors(none, s, lambda, len, m, &powers, 0, some);
+    let Roots { count, powers } = roots;
+    let out = with_errors([0; 255], s, lambda, len, m, &powers, 0, count.min(16));
     if count <= 16 {
         return out;
     }

@@ -1,9 +1,9 @@
-// The inverses of a row of field elements, by a list of all of them.
-ghost use Rattle.std.specs.Prelude.{◌≡◌};
-ghost use Rattle.field.specs.Field.{inverse_of};
+// The inverses of a row of field elements, by a list of all of them, which the law `inverses_listed` of proofs/Tables.antt is about.
 ghost use Rattle.words.specs.Working.{Filled, inverse_at};
 
-const INVERSES: [u8; 256] = [
+use std::array;
+
+static INVERSES: [u8; 256] = [
     0x00, 0x01, 0xC3, 0x82, 0xA2, 0x7E, 0x41, 0x5A, 0x51, 0x36, 0x3F, 0xAC, 0xE3, 0x68, 0x2D, 0x2A,
     0xEB, 0x9B, 0x1B, 0x35, 0xDC, 0x1E, 0x56, 0xA5, 0xB2, 0x74, 0x34, 0x12, 0xD5, 0x64, 0x15, 0xDD,
     0xB6, 0x4B, 0x8E, 0xFB, 0xCE, 0xE9, 0xD9, 0xA1, 0x6E, 0xDB, 0x0F, 0x2C, 0x2B, 0x0E, 0x91, 0xF1,
@@ -22,27 +22,8 @@ const INVERSES: [u8; 256] = [
     0x90, 0x2F, 0x72, 0x85, 0x33, 0x3B, 0xE7, 0x43, 0x89, 0xE1, 0x8F, 0x23, 0xC1, 0xB5, 0x92, 0x4F,
 ];
 
-fn inverse_list() -> [u8; 256]
-    ensures { Filled inverse_of 256 result 256 }
-{
-    INVERSES
-}
-
-fn listed_inverse(list: &[u8; 256], a: u8) -> u8
-    requires { Filled inverse_of 256 list.now 256 }
-    ensures { result ≡ inverse_of a }
-{
-    list[a as usize]
-}
-
 pub(crate) fn inverses(a: &[u8; 16]) -> [u8; 16]
     ensures { Filled (inverse_at a.now) 16 result 16 }
 {
-    let list = inverse_list();
-    let mut out: [u8; 16] = [0; 16];
-    for i in 0..16 {
-        let inverse = listed_inverse(&list, a[i]);
-        out[i] = inverse;
-    }
-    out
+    array::from_fn(|i| INVERSES[a[i] as usize])
 }

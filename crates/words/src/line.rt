@@ -3,14 +3,15 @@ ghost use Rattle.std.specs.Prelude.{◌≡◌, map, ◌≤◌, length};
 ghost use Rattle.field.specs.Line.{to_line};
 ghost use Rattle.words.specs.Working.{Filled, conventional_at};
 
+use std::array;
+
 pub(crate) fn conventional(sent: &[u8]) -> [u8; 255]
     requires { length sent.now ≤ 255 }
     ensures { Filled (conventional_at sent.now) 255 result (length sent.now) }
 {
     let mut out: [u8; 255] = [0; 255];
-    for i in 0..sent.len() {
-        let octet = field::to_conventional(sent[i]);
-        out[i] = octet;
+    for (i, symbol) in sent.iter().enumerate() {
+        out[i] = field::to_conventional(*symbol);
     }
     out
 }
@@ -26,13 +27,7 @@ fn line_octet(error: u8) -> u8
 }
 
 pub(crate) fn on_line(errors: &[u8; 255]) -> [u8; 255]
-    requires { length errors.now ≡ 255 }
     ensures { result ≡ map to_line errors.now }
 {
-    let mut out: [u8; 255] = [0; 255];
-    for i in 0..255 {
-        let octet = line_octet(errors[i]);
-        out[i] = octet;
-    }
-    out
+    array::from_fn(|i| line_octet(errors[i]))
 }

@@ -3,25 +3,23 @@ ghost use Rattle.std.specs.Prelude.{◌≡◌, ◌+◌, ◌-◌, ◌≤◌, ◌<
 ghost use Rattle.codewords.specs.Locators.{weight};
 ghost use Rattle.words.specs.Working.{Filled, windowed, HoldsProduct, HoldsChanged};
 
-use crate::locators::locators;
+use crate::locators::LOCATORS;
 use crate::polynomials::{by_root, pair};
 use crate::register::{polynomial, shortest_register};
 
 // The polynomial times x + z for the locator z of each of f marked places.
 pub(crate) fn times_marks(start: [u8; 33], marks: &[u8], f: usize) -> [u8; 33]
-    requires { (length start ≡ 33) × (length marks.now ≤ 255) × (f ≡ weight marks.now) }
+    requires { (length marks.now ≤ 255) × (f ≡ weight marks.now) }
     ensures { HoldsProduct start marks.now result }
 {
     if f == 0 {
         return start;
     }
-    let list = locators();
     let n = marks.len();
     let mut out = start;
     for power in 0..n {
         if marks[n - 1 - power] != 0 {
-            let more = by_root(&out, list[power]);
-            out = more;
+            out = by_root(&out, LOCATORS[power]);
         }
     }
     out
@@ -54,12 +52,9 @@ pub(crate) fn unmarked_locator(s: &[u8], marks: &[u8], f: usize) -> Locator
 {
     if f == 0 {
         let g = shortest_register(s);
-        let len = g.len;
-        let taps = g.taps;
-        let sigma = polynomial(&taps, len);
         return Locator {
-            len: len,
-            sigma: sigma,
+            len: g.len,
+            sigma: polynomial(&g.taps, g.len),
         };
     }
     let mut one: [u8; 33] = [0; 33];
@@ -69,11 +64,8 @@ pub(crate) fn unmarked_locator(s: &[u8], marks: &[u8], f: usize) -> Locator
     let left = s.len() - f;
     let t = changed(s, &gamma[..size]);
     let g = shortest_register(&t[..left]);
-    let len = g.len;
-    let taps = g.taps;
-    let sigma = polynomial(&taps, len);
     Locator {
-        len: len,
-        sigma: sigma,
+        len: g.len,
+        sigma: polynomial(&g.taps, g.len),
     }
 }

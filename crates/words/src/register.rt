@@ -3,6 +3,8 @@
 ghost use Rattle.std.specs.Prelude.{◌≡◌, ◌+◌, ◌≤◌, ◌<◌, length};
 ghost use Rattle.words.specs.Working.{Filled, terms, behind_zeros, PutBehind, blended_from, HoldsRegister, HoldsPolynomial};
 
+use std::array;
+
 // Its length and polynomial.
 #[derive(Clone, Copy)]
 pub(crate) struct Register {
@@ -16,9 +18,7 @@ fn padded(s: &[u8]) -> [u8; 32]
     ensures { Filled (terms s.now) 32 result 32 }
 {
     let mut out: [u8; 32] = [0; 32];
-    for i in 0..s.len() {
-        out[i] = s[i];
-    }
+    out[..s.len()].copy_from_slice(s);
     out
 }
 
@@ -26,9 +26,7 @@ fn behind_zeros(taps: &[u8; 32]) -> [u8; 65]
     ensures { Filled (behind_zeros taps.now) 65 result 65 }
 {
     let mut out: [u8; 65] = [0; 65];
-    for j in 0usize..32 {
-        out[33 + j] = taps[j];
-    }
+    out[33..].copy_from_slice(taps);
     out
 }
 
@@ -37,23 +35,14 @@ fn blended(taps: &[u8; 32], b: u8, kept: &[u8; 65], from: usize, d: u8) -> [u8; 
     requires { from ≤ 33 }
     ensures { Filled (blended_from taps.now b kept.now from d) 32 result 32 }
 {
-    let mut out: [u8; 32] = [0; 32];
-    for j in 0..32 {
-        let x = field::mul(b, taps[j]);
-        let y = field::mul(d, kept[from + j]);
-        out[j] = x ^ y;
-    }
-    out
+    array::from_fn(|j| field::mul(b, taps[j]) ^ field::mul(d, kept[from + j]))
 }
 
 // Another row behind the same zeros.
-fn put_behind(kept: &mut [u8], row: &[u8; 32])
-    requires { length kept.old ≡ 65 }
+fn put_behind(kept: &mut [u8; 65], row: &[u8; 32])
     ensures { PutBehind row.now kept.old kept.new }
 {
-    for j in 0usize..32 {
-        kept[33 + j] = row[j];
-    }
+    kept[33..].copy_from_slice(row);
 }
 
 // Of an earlier register the polynomial and its failures are kept behind zeros, and read from a place that is one lower for each term since; and
@@ -70,15 +59,16 @@ pub(crate) fn shortest_register(s: &[u8]) -> Register
     let mut len: usize = 0;
     let mut from: usize = 32;
     let mut last: u8 = 1;
+    // By a number: each turn makes `gaps` anew.
     for n in 0..s.len() {
         let gap = gaps[n];
         if gap == 0 {
-            from = from - 1;
+            from -= 1;
         } else {
             let more = blended(&taps, last, &kept, from, gap);
             let more_gaps = blended(&gaps, last, &kept_gaps, from, gap);
             if n < len + len {
-                from = from - 1;
+                from -= 1;
             } else {
                 put_behind(&mut kept, &taps);
                 put_behind(&mut kept_gaps, &gaps);
@@ -90,22 +80,16 @@ pub(crate) fn shortest_register(s: &[u8]) -> Register
             gaps = more_gaps;
         }
     }
-    Register {
-        len: len,
-        taps: taps,
-    }
+    Register { len, taps }
 }
 
 // The polynomial itself, lowest coefficient first, if it is not too long to be of use.
 pub(crate) fn polynomial(taps: &[u8; 32], len: usize) -> [u8; 33]
     ensures { HoldsPolynomial taps.now len result }
 {
-    let mut out: [u8; 33] = [0; 33];
-    if len >= 32 {
-        return out;
-    }
-    for j in 0..len + 1 {
-        out[j] = taps[len - j];
-    }
-    out
+    array::from_fn(|j| if j <= len && len < 32 {
+        taps[len - j]
+    } else {
+        0
+    })
 }

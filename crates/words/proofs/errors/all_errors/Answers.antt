@@ -15,7 +15,7 @@ returns-then-count-le16 c =
 
 pub with_errors-requires : goal.with_errors-requires
 with_errors-requires c =
-    let row : 0 + c.at_most_a_row-some.result ≡ 16 = omega arith in (
+    let row : 0 + c.min.result ≡ 16 = omega arith in (
       omega arith,
       omega arith,
       omega arith,

@@ -1,12 +1,8 @@
 -- `with_errors` writes the error of one root after another at its place.
-use Prim.Native.Nat.{ℕ, ◌≤◌, ◌-◌, ◌<◌, ◌+◌}
-use lib.ListN.{get_or}
+use Rattle.std.proofs.Common.{ℕ, ◌<◌, ◌+◌, get_or}
 use Rattle.words.specs.Working.{Placed}
 use Rattle.words.proofs.errors.with_errors.Given as goal
 
 abbrev pub invariant-loop-c : goal.invariant-loop-c
 invariant-loop-c l =
-    (l.c ≤ l.some) × ((b : ℕ) → b < l.some → get_or l.row b 0 < l.len) × Placed l.s l.lambda l.len l.m l.powers l.out (l.first + l.c)
-
-abbrev pub decreases-loop-c : goal.decreases-loop-c
-decreases-loop-c l = l.some - l.c
+    ((b : ℕ) → b < l.some → get_or l.power-items b 0 < l.len) × Placed l.s l.lambda l.len l.m l.powers l.out (l.first + l.c)

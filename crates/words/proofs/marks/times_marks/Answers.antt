@@ -4,6 +4,7 @@ use Prim.Native.Nat.{◌-◌}
 use native.Mathlib.Omega.{arith}
 use lib.ListN.{length}
 use Rattle.words.proofs.MarkedProducts.{product_starts, product_unmarked, product_marked, product_plain}
+use Rattle.words.proofs.Tables.{locators_listed}
 use Rattle.words.specs.Working.{HoldsProduct}
 use Rattle.words.proofs.marks.times_marks.Goals as goal
 use Rattle.words.proofs.marks.times_marks.Goals.{then-marks-n-ne0, else-marks-n-ne0}
@@ -12,7 +13,7 @@ pub returns-then-f-eq0 : goal.returns-then-f-eq0
 returns-then-f-eq0 c = product_unmarked _ _ (omega arith) (omega arith)
 
 pub loop-power-init : goal.loop-power-init
-loop-power-init c = (omega arith, product_starts _ c.args.marks.now c.requires.0)
+loop-power-init c = (omega arith, product_starts _ c.args.marks.now (omega arith))
 
 pub loop-power-preserved : goal.loop-power-preserved
 loop-power-preserved c =
@@ -20,7 +21,7 @@ loop-power-preserved c =
       omega arith,
       elim c.if-marks-n-ne0.branch [
         | then-marks-n-ne0 w ↦ subst (HoldsProduct _ _) (sym w.out-is) (product_marked _ marks c.loop-power.power _ (omega arith) c.loop-power.invariant.1 _ _
-            w.if-marks-n-ne0.true (c.locators-list.ensures.each _ (omega arith)) w.by_root-more.ensures)
+            w.if-marks-n-ne0.true (locators_listed.each _ (omega arith)) w.by_root-out.ensures)
         | else-marks-n-ne0 w ↦ subst (HoldsProduct _ _) (sym w.out-is) (product_plain _ marks c.loop-power.power _ (omega arith) c.loop-power.invariant.1
             w.if-marks-n-ne0.false)
       ],

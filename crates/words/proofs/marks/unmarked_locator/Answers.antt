@@ -10,7 +10,7 @@ use Rattle.words.proofs.marks.unmarked_locator.Goals as goal
 pub returns-then-f-eq0 : goal.returns-then-f-eq0
 returns-then-f-eq0 c =
     holds_unmarked c.args.s.now c.args.marks.now (omega arith) (λ i. omega (arith, c.type_inv.s i)) _ _ _
-    c.shortest_register-g.ensures c.polynomial-sigma.ensures
+    c.shortest_register-g.ensures c.polynomial.ensures
 
 pub slice_bounds-changed-end : goal.slice_bounds-changed-end
 slice_bounds-changed-end c = sym (length-take-le _ _ (omega (arith, c.times_marks-gamma.ensures.size)))
@@ -27,4 +27,4 @@ shortest_register-g-requires-2 c = simp length-take (omega arith)
 pub returns : goal.returns
 returns c =
     holds_changed c.args.s.now c.args.marks.now _ c.requires.2 (omega arith) (omega arith) _ _ (one_first 32)
-    c.times_marks-gamma.ensures _ c.changed-t.ensures _ _ _ c.shortest_register-g-2.ensures c.polynomial-sigma-2.ensures
+    c.times_marks-gamma.ensures _ c.changed-t.ensures _ _ _ c.shortest_register-g-2.ensures c.polynomial-2.ensures

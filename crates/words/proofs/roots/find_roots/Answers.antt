@@ -1,29 +1,25 @@
 -- `find_roots` passes one place after another; a root is added to those found.
-use mathlib.Core.Path.{◌≡◌, sym, ◌∙◌}
-use native.Mathlib.Omega.{arith}
+use Rattle.std.proofs.Common.{arith, ◌≡◌, sym, ◌∙◌, refl, length, take, get_or}
+use lib.Seq.{length-take-le, get_or-take}
 use Rattle.words.proofs.RootsFound.{value_is, roots_start, roots_none, roots_more}
 use Rattle.words.proofs.roots.find_roots.Goals as goal
-use Rattle.words.proofs.roots.find_roots.Goals.{then-values-power-eq0, else-values-power-eq0}
+use Rattle.words.proofs.roots.find_roots.Goals.{then-value-eq0, else-value-eq0}
 
 pub loop-power-init : goal.loop-power-init
-loop-power-init c = (omega arith, roots_start _ _ _ c.no_roots-found.ensures.0 c.no_roots-found.ensures.1)
-
-pub with_root-more-requires : goal.with_root-more-requires
-with_root-more-requires c = (omega (arith, c.loop-power.invariant.1.few), omega arith, c.loop-power.invariant.1.powers_size)
+loop-power-init c = roots_start _ _ _ refl refl
 
 pub loop-power-preserved : goal.loop-power-preserved
 loop-power-preserved c =
     let now = c.loop-power in
-    let value = value_is _ _ now.power c.values_everywhere-values.ensures (omega arith) in (
-      omega arith,
-      elim c.if-values-power-eq0.branch [
-        | then-values-power-eq0 w ↦ rw w.found-is (rw (w.with_root-more.ensures.count_is, w.with_root-more.ensures.powers_are)
-            (roots_more _ _ _ _ now.invariant.1 (sym value ∙ w.if-values-power-eq0.true)))
-        | else-values-power-eq0 w ↦ rw w.found-is (roots_none _ _ _ _ now.invariant.1 (λ e. w.if-values-power-eq0.false (value ∙ e)))
-      ],
-    )
+    let all : length (take c.args.len c.values_everywhere-values.result) ≡ c.args.len = length-take-le _ _ (omega (arith, c.values_everywhere-values.ensures.size)) in
+    let value = value_is _ _ now.power c.values_everywhere-values.ensures (omega arith) in
+    let here : get_or (take c.args.len c.values_everywhere-values.result) now.power 0 ≡ get_or c.values_everywhere-values.result now.power 0 = get_or-take _ _ now.power 0 (omega arith) in
+    elim c.if-value-eq0.branch [
+      | then-value-eq0 w ↦ rw w.found-is (rw (w.put.ensures.count_is, w.put.ensures.powers_are) (roots_more _ _ _ _ now.invariant (sym value ∙ sym here ∙ w.if-value-eq0.true)))
+      | else-value-eq0 w ↦ rw w.found-is (roots_none _ _ _ _ now.invariant (λ e. w.if-value-eq0.false (here ∙ value ∙ e)))
+    ]
 
 pub returns : goal.returns
 returns c =
-    let whole : c.loop-power.power ≡ c.args.len = omega arith in
-    rw whole at c.loop-power.invariant.1
+    let whole : c.loop-power.power ≡ c.args.len = omega (arith, length-take-le c.args.len c.values_everywhere-values.result (omega (arith, c.values_everywhere-values.ensures.size))) in
+    rw whole at c.loop-power.invariant

@@ -5,16 +5,14 @@ use Rattle.words.proofs.Thirds.{thirds_start, thirds_turn}
 use Rattle.words.proofs.roots.in_thirds.Goals as goal
 
 pub loop-j-init : goal.loop-j-init
-loop-j-init c = (omega arith, thirds_start c.args.lambda.now _ _ c.requires.0)
+loop-j-init c = thirds_start c.args.lambda.now _ _ c.requires.0
 
 pub loop-j-preserved : goal.loop-j-preserved
 loop-j-preserved c =
-    let now = c.loop-j in (
-      omega arith,
-      thirds_turn _ _ _ _ _ _ _ _ now.j _ (omega arith) refl now.invariant.1 c.with_symbol-more_first.ensures c.with_symbol-more_second.ensures c.with_symbol-more_third.ensures,
-    )
+    let now = c.loop-j in
+    thirds_turn _ _ _ _ _ _ _ _ now.j _ (omega arith) refl now.invariant c.with_symbol-first.ensures c.with_symbol-second.ensures c.with_symbol-third.ensures
 
 pub returns : goal.returns
 returns c =
     let all : c.loop-j.j ≡ 0 = omega arith in
-    rw all at c.loop-j.invariant.1
+    rw all at c.loop-j.invariant

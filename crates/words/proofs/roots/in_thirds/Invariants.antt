@@ -1,11 +1,7 @@
 -- `in_thirds` goes by Horner's rule from the top, at all points and in each part: the parts are those of the coefficients passed.
-use Prim.Native.Nat.{◌*◌, ◌≤◌}
-use lib.ListN.{drop}
+use Rattle.std.proofs.Common.{◌*◌, drop}
 use Rattle.words.specs.Working.{InThirds}
 use Rattle.words.proofs.roots.in_thirds.Given as goal
 
 abbrev pub invariant-loop-j : goal.invariant-loop-j
-invariant-loop-j l = (l.j ≤ l.parts) × InThirds (drop (3 * l.j) l.lambda) l.points l.first l.second l.third
-
-abbrev pub decreases-loop-j : goal.decreases-loop-j
-decreases-loop-j l = l.j
+invariant-loop-j l = InThirds (drop (3 * l.j) l.lambda) l.points l.first l.second l.third

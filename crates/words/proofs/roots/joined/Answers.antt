@@ -1,18 +1,13 @@
--- `joined` fills in three sums in each turn.
-use mathlib.Core.Path.{◌≡◌}
-use native.Mathlib.Omega.{arith}
-use Rattle.words.proofs.Thirds.{joined_starts, joined_turn}
+-- `joined` sums the three parts in three ways.
+use Rattle.std.proofs.Common.{rules}
+use Rattle.words.proofs.Made.{filled_made}
+use Rattle.words.proofs.Thirds.{rows_joined}
 use Rattle.words.proofs.roots.joined.Goals as goal
-
-pub loop-i-init : goal.loop-i-init
-loop-i-init c = (omega arith, joined_starts _ _ _ _ _)
-
-pub loop-i-preserved : goal.loop-i-preserved
-loop-i-preserved c =
-    let now = c.loop-i in
-    (omega arith, joined_turn now.i _ _ _ now.invariant.1 (omega arith) c.mul-b.ensures c.mul-c.ensures c.mul-turned.ensures)
 
 pub returns : goal.returns
 returns c =
-    let whole : c.loop-i.i ≡ 16 = omega arith in
-    rw whole at c.loop-i.invariant.1
+    rows_joined _ _ _ c.times-b.ensures c.times-c.ensures
+    (filled_made _ _ _ (λ i y q k. search rules) _ _ c.from_fn-turned.ensures.items)
+    (filled_made _ _ _ (λ i y q k. search rules) _ _ c.from_fn.ensures.items)
+    (filled_made _ _ _ (λ i y q k. search rules) _ _ c.from_fn-2.ensures.items)
+    (filled_made _ _ _ (λ i y q k. search rules) _ _ c.from_fn-3.ensures.items)

@@ -1,17 +1,8 @@
--- `row_from` copies one place after another.
-use mathlib.Core.Path.{refl, ◌≡◌}
-use native.Mathlib.Omega.{arith}
-use Rattle.words.proofs.Arrays.{filled_starts}
-use Rattle.words.proofs.RowTurns.{later_turn}
+use Rattle.std.proofs.Common.{rules}
+use Rattle.words.proofs.Made.{filled_made}
+use Rattle.words.specs.Working.{later_at}
 use Rattle.words.proofs.rows.row_from.Goals as goal
 
-pub loop-i-init : goal.loop-i-init
-loop-i-init c = (omega arith, filled_starts _ 16 _ refl)
-
-pub loop-i-preserved : goal.loop-i-preserved
-loop-i-preserved c = (omega arith, later_turn _ _ _ _ c.loop-i.invariant.1 (omega arith))
-
 pub returns : goal.returns
-returns c =
-    let whole : c.loop-i.i ≡ 16 = omega arith in
-    rw whole at c.loop-i.invariant.1
+unfolding later_at
+returns g c = filled_made _ _ _ (λ i y q k. search rules) _ _ c.from_fn.ensures.items

@@ -1,17 +1,8 @@
--- `times` fills in one product after another.
-use mathlib.Core.Path.{refl, ◌≡◌}
-use native.Mathlib.Omega.{arith}
-use Rattle.words.proofs.Arrays.{filled_starts}
-use Rattle.words.proofs.RowTurns.{times_turn}
+use Rattle.std.proofs.Common.{rules}
+use Rattle.words.proofs.Made.{filled_made}
+use Rattle.words.specs.Working.{product_at}
 use Rattle.words.proofs.rows.times.Goals as goal
 
-pub loop-i-init : goal.loop-i-init
-loop-i-init c = (omega arith, filled_starts _ 16 _ refl)
-
-pub loop-i-preserved : goal.loop-i-preserved
-loop-i-preserved c = (omega arith, times_turn _ _ _ _ _ c.loop-i.invariant.1 (omega arith) c.mul-product.ensures)
-
 pub returns : goal.returns
-returns c =
-    let whole : c.loop-i.i ≡ 16 = omega arith in
-    rw whole at c.loop-i.invariant.1
+unfolding product_at
+returns c = filled_made _ _ _ (λ i y q k. search rules) _ _ c.from_fn.ensures.items

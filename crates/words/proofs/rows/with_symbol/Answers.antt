@@ -1,18 +1,8 @@
--- `with_symbol` makes one step of Horner's rule at one point after another.
-use mathlib.Core.Path.{refl, ◌≡◌, ◌∙◌}
-use native.Mathlib.Omega.{arith}
-use Rattle.field.proofs.Product.{·_comm}
-use Rattle.words.proofs.Arrays.{filled_starts}
-use Rattle.words.proofs.RowTurns.{horner_turn}
+use Rattle.std.proofs.Common.{rules}
+use Rattle.words.proofs.Made.{filled_made}
+use Rattle.words.specs.Working.{horner_at}
 use Rattle.words.proofs.rows.with_symbol.Goals as goal
 
-pub loop-i-init : goal.loop-i-init
-loop-i-init c = (omega arith, filled_starts _ 16 _ refl)
-
-pub loop-i-preserved : goal.loop-i-preserved
-loop-i-preserved c = (omega arith, horner_turn _ _ _ _ _ _ c.loop-i.invariant.1 (omega arith) (c.mul-product.ensures ∙ ·_comm _ _))
-
 pub returns : goal.returns
-returns c =
-    let whole : c.loop-i.i ≡ 16 = omega arith in
-    rw whole at c.loop-i.invariant.1
+unfolding horner_at
+returns g c = filled_made _ _ _ (λ i y q k. search rules) _ _ c.from_fn.ensures.items

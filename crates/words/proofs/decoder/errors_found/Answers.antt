@@ -1,11 +1,12 @@
--- `with_errors_found`: the register is too long, the roots are too few, or what the roots give is the one good codeword.
-use mathlib.Core.Path.{sym}
+-- `errors_found`: the register is too long, the roots are too few, or what the roots give is the one good codeword.
+use mathlib.Core.Path.{refl, sym}
 use Prim.Native.Nat.{ℕ, ◌+◌, ◌*◌, ◌/◌}
 use native.Mathlib.Omega.{arith}
 use lib.Seq.{length-take-le}
 use borrow.Author.Rules.{rules}
+use Rattle.words.proofs.Arrays.{zero-at}
 use Rattle.words.proofs.Decisions.{too_far_by, too_few_by, decided_by}
-use Rattle.words.proofs.decoder.with_errors_found.Goals as goal
+use Rattle.words.proofs.decoder.errors_found.Goals as goal
 
 -- how many coefficients are looked at
 abbrev cut : ℕ → ℕ → ℕ
@@ -13,9 +14,8 @@ cut len f = 3 * ((len + f + 3) / 3)
 
 pub returns-then-len-f : goal.returns-then-len-f
 returns-then-len-f c = (
-  omega (arith, c.without_errors.ensures.1),
-  too_far_by _ _ _ _ (omega arith) (omega arith) (omega arith) _ _ _ _ c.without_errors.ensures.0 c.without_errors.ensures.2 c.without_errors.ensures.3 (omega arith) _ _
-      c.unmarked_locator-locator.ensures (omega arith),
+  omega arith,
+  too_far_by _ _ _ _ (omega arith) (omega arith) (omega arith) _ _ _ _ refl refl (zero-at 255) (omega arith) _ _ c.unmarked_locator-locator.ensures (omega arith),
 )
 
 pub slice_bounds-find_roots-end : goal.slice_bounds-find_roots-end
@@ -26,10 +26,9 @@ find_roots-roots-requires c = (length-take-le _ _ (omega (arith, c.times_marks-l
 
 pub returns-then-roots-len : goal.returns-then-roots-len
 returns-then-roots-len c = (
-  omega (arith, c.without_errors-then-roots-len.ensures.1),
-  too_few_by _ _ _ _ (omega arith) (omega arith) (omega arith) _ _ _ _ c.without_errors-then-roots-len.ensures.0 c.without_errors-then-roots-len.ensures.2 c.without_errors-then-roots-len.ensures.3 (omega arith) _ _
-      c.unmarked_locator-locator.ensures (omega arith) _ c.times_marks-lambda.ensures
-      (cut c.unmarked_locator-locator.result.len c.args.f) _ _ c.find_roots-roots.ensures (omega arith) (search rules),
+  omega arith,
+  too_few_by _ _ _ _ (omega arith) (omega arith) (omega arith) _ _ _ _ refl refl (zero-at 255) (omega arith) _ _ c.unmarked_locator-locator.ensures (omega arith)
+      _ c.times_marks-lambda.ensures (cut c.unmarked_locator-locator.result.len c.args.f) _ _ c.find_roots-roots.ensures (omega arith) (search rules),
 )
 
 pub slice_bounds-all_errors-end : goal.slice_bounds-all_errors-end
@@ -40,5 +39,5 @@ returns c = (
   omega arith,
   decided_by _ _ _ _ (omega arith) (omega arith) (omega arith) _ _ _ c.unmarked_locator-locator.ensures (omega arith) _
       c.times_marks-lambda.ensures
-      (cut c.unmarked_locator-locator.result.len c.args.f) _ _ c.find_roots-roots.ensures (omega arith) _ c.all_errors-errors.ensures (search rules),
+      (cut c.unmarked_locator-locator.result.len c.args.f) _ _ c.find_roots-roots.ensures (omega arith) _ c.all_errors.ensures (search rules),
 )
