@@ -6,11 +6,15 @@ use Prim.Native.Nat.{ℕ, zero, suc, ◌+◌, ◌-◌, ◌*◌, ◌/◌, ◌%◌
 use native.Mathlib.Nat.{add-zero, zero-add, add-suc, suc-add, add_comm, mod-eq_of_lt, mul-le-mul_right, mul-add-mod_self_right, add-mul-div_right, div-eq_of_lt, div-add-mod', mod-lt}
 use native.Mathlib.Decide.{dec_lt}
 use native.Mathlib.Omega.{arith}
-use lib.ListN.{length, take, drop, get_or, replicate, length-replicate}
+use borrow.Rule.Slice.PartMut.{put_mid, post_of}
+use lib.ListN.{length, take, drop, get_or, replicate, length-take, length-replicate, get_or-append}
 use lib.Seq.{drop_at, get_or-take, get_or-append-add, ext_get_or}
 use Rattle.codewords.specs.Words.{Octets, differing, with_fill}
 use Rattle.codewords.proofs.LineWords.{unless_alike, differing-front}
+use Rattle.std.proofs.lemmas.List.{get_or-append_right}
+use Rattle.std.proofs.lemmas.Slice.{take-put_mid_below}
 use Rattle.encoding.specs.Blocks.{sent_from, word_of}
+use Rattle.encoding.specs.Rows.{ChecksPut}
 
 -- ---- places
 
@@ -42,23 +46,38 @@ symbol_below i k m w h =
     at_least n = omega arith
 
 -- the next place is that of the next word, or of the first word's next symbol
-module _ (i at start symbol word symbol' word' : ℕ) (place : at ≡ start + (symbol * i + word)) where
-  pub next_word : word' ≡ word + 1 → symbol' ≡ symbol → at + 1 ≡ start + (symbol' * i + word')
+module _ (i at symbol word symbol' word' : ℕ) (place : at ≡ symbol * i + word) where
+  pub next_word : word' ≡ word + 1 → symbol' ≡ symbol → at + 1 ≡ symbol' * i + word'
   next_word e s = omega (arith, ap (λ (k : ℕ). k * i) s)
 
-  pub next_symbol : word + 1 ≡ i → word' ≡ 0 → symbol' ≡ symbol + 1 → at + 1 ≡ start + (symbol' * i + word')
+  pub next_symbol : word + 1 ≡ i → word' ≡ 0 → symbol' ≡ symbol + 1 → at + 1 ≡ symbol' * i + word'
   next_symbol l e s = omega (arith, ap (λ (k : ℕ). k * i) s)
 
--- ---- rows that are interleaved from octet `start` on
+-- ---- rows that are interleaved
 
-unfoldable pub interleaved : List (List ℕ) → ℕ → ℕ → ℕ → ℕ
-interleaved rows i start n = get_or (get_or rows ((n - start) % i) []) ((n - start) / i) 0
+unfoldable pub interleaved : List (List ℕ) → ℕ → ℕ → ℕ
+interleaved rows i n = get_or (get_or rows (n % i) []) (n / i) 0
 
-pub interleaved-at : (rows : List (List ℕ)) (i start n j w : ℕ) → n ≡ start + (j * i + w) → w < i → get_or (get_or rows w []) j 0 ≡ interleaved rows i start n
+pub interleaved-at : (rows : List (List ℕ)) (i n j w : ℕ) → n ≡ j * i + w → w < i → get_or (get_or rows w []) j 0 ≡ interleaved rows i n
 unfolding interleaved
-interleaved-at rows i start n j w e h =
-    ap₂ (λ (a b : ℕ). get_or (get_or rows a []) b 0) (sym (word_of_lem i j w h)) (sym (symbol_of i j w h))
-    ∙ ap (λ (m : ℕ). get_or (get_or rows (m % i) []) (m / i) 0) (omega arith)
+interleaved-at rows i n j w e h =
+    ap₂ (λ (a b : ℕ). get_or (get_or rows a []) b 0) (sym (word_of_lem i j w h)) (sym (symbol_of i j w h)) ∙ ap (λ (m : ℕ). get_or (get_or rows (m % i) []) (m / i) 0) (sym e)
+
+-- and put from octet `start` of a block on
+pub checks_put : (rows : List (List ℕ)) (i start : ℕ) (before items : List ℕ) → start ≤ length before → length items ≡ length before - start
+    → ((n : ℕ) → n < length items → get_or items n 0 ≡ interleaved rows i n) → length (put_mid start (length before - start) before items) ≡ length before
+    → ChecksPut rows i start before (put_mid start (length before - start) before items)
+checks_put rows i start before items within long written size =
+    record {
+      size = size;
+      front = take-put_mid_below start (length before - start) before items start (omega arith) within;
+      checks = λ j w h l. get_or-append_right (take start before) (items ++ behind) start (start + (j * i + w)) 0 (length-take start before ∙ omega arith) (omega arith)
+          ∙ ap (λ (n : ℕ). get_or (items ++ behind) n 0) (omega arith) ∙ get_or-append items behind 0 (j * i + w) (omega (arith, long))
+          ∙ written (j * i + w) (omega (arith, long)) ∙ sym (interleaved-at rows i (j * i + w) j w refl h);
+    }
+  where
+    behind : List ℕ
+    behind = post_of start (length before - start) before
 
 -- ---- the symbols of a word
 

@@ -84,9 +84,8 @@ pub(crate) fn put_checks(rows: [[u8; 32]; 8], depth: usize, start: usize, block:
 {
     let mut word = 0usize;
     let mut check = 0usize;
-    let n = block.len();
-    for at in start..n {
-        block[at] = rows[word][check];
+    for octet in &mut block[start..] {
+        *octet = rows[word][check];
         word += 1;
         if word == depth {
             word = 0;

@@ -15,19 +15,17 @@ fn may_enter(e: u32, first: usize, depth: usize) -> bool
 // length is not known.
 pub fn rows_entered(
     e: u32,
-    rows: [[u8; 32]; 8],
+    mut rows: [[u8; 32]; 8],
     first: usize,
     symbols: &[u8],
     depth: usize,
 ) -> [[u8; 32]; 8]
     ensures { RowsOutcome e depth first rows symbols.now result }
 {
-    if !may_enter(e, first, depth) {
-        return rows;
+    if may_enter(e, first, depth) {
+        enter(e, &mut rows, first, symbols, depth);
     }
-    let mut after = rows;
-    enter(e, &mut after, first, symbols, depth);
-    after
+    rows
 }
 
 fn checks_fit(depth: usize, start: usize, block: usize) -> bool
@@ -40,8 +38,7 @@ fn checks_fit(depth: usize, start: usize, block: usize) -> bool
 pub fn write_checks(rows: [[u8; 32]; 8], depth: usize, start: usize, block: &mut [u8])
     ensures { ChecksOutcome rows depth start block.old block.new }
 {
-    if !checks_fit(depth, start, block.len()) {
-        return;
+    if checks_fit(depth, start, block.len()) {
+        put_checks(rows, depth, start, block);
     }
-    put_checks(rows, depth, start, block);
 }

@@ -2,7 +2,7 @@
 use mathlib.Core.Path.{◌≡◌, refl, sym, ap, ap₂, ◌∙◌}
 use mathlib.Core.Bool.{Bool, true, false}
 use mathlib.Core.Logic.{inl, inr}
-use mathlib.Core.List.{List, []}
+use mathlib.Core.List.{List}
 use Prim.Native.Nat.{ℕ, ◌+◌, ◌-◌, ◌*◌, ◌%◌, ◌≤◌, ◌<◌}
 use native.Mathlib.Nat.{zero-add, mul-le-mul, mul-le-mul_right}
 use native.Mathlib.Omega.{arith}
@@ -13,17 +13,15 @@ use Rattle.octets.proofs.Laws.{copied_length, copied_front}
 use Rattle.refusals.specs.Order.{FirstOf}
 use Rattle.refusals.specs.Sizes.{frame_length, checks_length}
 use Rattle.refusals.specs.Calls.{portion_order, close_order}
-use Rattle.refusals.specs.Numbers.{verdict_number}
+use Rattle.refusals.specs.Numbers.{parameter_number}
 use Rattle.refusals.specs.declared.Parameter.{Parameter}
-use Rattle.refusals.specs.declared.Verdict.{Verdict}
-use Rattle.refusals.specs.declared.Verdict.TheVariants.{Accepted, Refused}
+use Rattle.std.specs.Prelude.{⊤, Ok, Err}
 use Rattle.refusals.proofs.Orders.{Clear, accepted_clear, not_different}
 use Rattle.refusals.proofs.Legal.{LegalWords, legal_words}
-use Rattle.refusals.proofs.Verdicts.{parameter_nonzero, same_verdict}
-use Rattle.frame_portions.specs.declared.Row.{Row}
+use Rattle.refusals.proofs.Verdicts.{parameter_nonzero}
 use Rattle.frame_portions.specs.declared.Progress.{Progress}
-use Rattle.encoding.specs.Rows.{in_row, rows_entered, RowsOn, MayEnter, ChecksPut, ChecksFit}
-use Rattle.frame_portions.specs.Portions.{octet_rows, held_rows, taken, closing, PortionOutcome, Checks, CloseOutcome}
+use Rattle.encoding.specs.Rows.{RowsOn, MayEnter, ChecksPut, ChecksFit}
+use Rattle.frame_portions.specs.Portions.{taken, closing, PortionOutcome, Checks, CloseOutcome}
 use Rattle.encoding.proofs.Interleaving.{place-below}
 
 not_set : (flag : Bool) → (flag ≡ true → ⊥) → flag ≡ false
@@ -67,29 +65,20 @@ pub portion_enters : (e i q portion written place : ℕ) (closed : Bool) (word :
 portion_enters e i q portion written place closed word legal h = record { strength = legal.words.strength; within = h; deep = legal.words.deep }
 
 -- the parts of the state that a portion leaves
-pub taken_is : (e i : ℕ) (state : Progress) (portion : List ℕ) (place word : ℕ) (rows after : List (List ℕ)) (held : List Row) → place ≡ state.place + length portion
-    → state.place % i ≡ word → rows ≡ octet_rows state.rows → RowsOn e i word rows portion after → held ≡ held_rows after
-    → record { place = place; closed = state.closed; rows = held } ≡ taken e i state portion
-taken_is e i state portion place word rows after held moved at unpacked entered packed =
-    ap₂ {C = Progress} (λ (n : ℕ) (list : List Row). record { place = n; closed = state.closed; rows = list }) moved
-    (packed ∙ ap held_rows (entered state.place at)
-    ∙ ap (λ (list : List (List ℕ)). held_rows (rows_entered (in_row e) i state.place list portion)) unpacked)
+pub taken_is : (e i : ℕ) (state : Progress) (portion : List ℕ) (place word : ℕ) (rows : List (List ℕ)) → place ≡ state.place + length portion
+    → state.place % i ≡ word → RowsOn e i word state.rows portion rows → record { place = place; closed = state.closed; rows = rows } ≡ taken e i state portion
+taken_is e i state portion place word rows moved at entered =
+    ap₂ {C = Progress} (λ (n : ℕ) (list : List (List ℕ)). record { place = n; closed = state.closed; rows = list }) moved (entered state.place at)
 
 module _ (e i q : ℕ) (state : Progress) (portion before : List ℕ) where
-  pub portion_refuses : (v : Verdict) (p : Parameter) → v ≡ Refused p
-      → FirstOf (portion_order e i q (length portion) (length before) state.place state.closed) (verdict_number v)
-      → PortionOutcome e i q state portion before (Refused p) state before
-  portion_refuses v p refuses first =
-      record {
-        number = same_verdict (portion_order e i q (length portion) (length before) state.place state.closed) v (Refused p) refuses first;
-        refused = λ n. (refl, refl);
-        accepted = λ n. absurd (parameter_nonzero p n);
-      }
+  pub portion_refuses : (p : Parameter) → FirstOf (portion_order e i q (length portion) (length before) state.place state.closed) (parameter_number p)
+      → PortionOutcome e i q state portion before (Err p) state before
+  portion_refuses p first = record { number = first; refused = λ n. (refl, refl); accepted = λ n. absurd (parameter_nonzero p n) }
 
-  pub portion_accepts : (next : Progress) (after : List ℕ)
+  pub portion_accepts : (done : ⊤) (next : Progress) (after : List ℕ)
       → FirstOf (portion_order e i q (length portion) (length before) state.place state.closed) 0 → next ≡ taken e i state portion
-      → after ≡ copied_over portion before → PortionOutcome e i q state portion before Accepted next after
-  portion_accepts next after first next-is copied =
+      → after ≡ copied_over portion before → PortionOutcome e i q state portion before (Ok done) next after
+  portion_accepts done next after first next-is copied =
       record { number = first; refused = λ n. absurd (n refl); accepted = λ n. (next-is, written_is) }
     where
       fits : length before ≡ length portion
@@ -128,28 +117,22 @@ close_fits e i q checks place closed legal =
     few = omega (arith, legal.words.strong)
 
 module _ (e i q : ℕ) (state : Progress) (before : List ℕ) where
-  pub close_refuses : (v : Verdict) (p : Parameter) → v ≡ Refused p → FirstOf (close_order e i q (length before) state.place state.closed) (verdict_number v)
-      → CloseOutcome e i q state before (Refused p) state before
-  close_refuses v p refuses first =
-      record {
-        number = same_verdict (close_order e i q (length before) state.place state.closed) v (Refused p) refuses first;
-        refused = λ n. (refl, refl);
-        accepted = λ n. absurd (parameter_nonzero p n);
-      }
+  pub close_refuses : (p : Parameter) → FirstOf (close_order e i q (length before) state.place state.closed) (parameter_number p)
+      → CloseOutcome e i q state before (Err p) state before
+  close_refuses p first = record { number = first; refused = λ n. (refl, refl); accepted = λ n. absurd (parameter_nonzero p n) }
 
-  pub close_accepts : (rows : List (List ℕ)) (after : List ℕ) → FirstOf (close_order e i q (length before) state.place state.closed) 0
-      → rows ≡ octet_rows state.rows → ChecksPut rows i 0 before after → CloseOutcome e i q state before Accepted (closing state) after
-  close_accepts rows after first unpacked put =
+  pub close_accepts : (done : ⊤) (after : List ℕ) → FirstOf (close_order e i q (length before) state.place state.closed) 0
+      → ChecksPut state.rows i 0 before after → CloseOutcome e i q state before (Ok done) (closing state) after
+  close_accepts done after first put =
       record { number = first; refused = λ n. absurd (n refl); accepted = λ n. (refl, checks_are) }
     where
       fits : length before ≡ checks_length e i
       fits = (close_legal e i q (length before) state.place state.closed first).output
 
-      checks_are : Checks e i (octet_rows state.rows) after
+      checks_are : Checks e i state.rows after
       checks_are =
           record {
             size = put.size ∙ fits;
             octet = λ j w l h. ap (λ (n : ℕ). get_or after n 0) (sym (zero-add (j * i + w)))
-                ∙ put.checks j w h (omega (arith, fits, place-below i j (2 * e) w (omega arith) h))
-                ∙ ap (λ (list : List (List ℕ)). get_or (get_or list w []) j 0) unpacked;
+                ∙ put.checks j w h (omega (arith, fits, place-below i j (2 * e) w (omega arith) h));
           }

@@ -13,18 +13,16 @@ use Rattle.refusals.specs.Order.{Check, FirstOf}
 use Rattle.refusals.specs.Sizes.{frame_length, block_length, checks_length}
 use Rattle.refusals.specs.Calls.{strength, depth, fill, input_over, output, encode_order, portion_order, close_order}
 use Rattle.refusals.specs.Working.{word_parameters}
-use Rattle.refusals.specs.Numbers.{verdict_number}
-use Rattle.refusals.specs.declared.Verdict.{Verdict}
-use Rattle.refusals.specs.declared.Verdict.TheVariants.{Accepted}
+use Rattle.refusals.specs.Numbers.{Verdict, verdict_number}
+use Rattle.std.specs.Prelude.{Ok}
 use Rattle.refusals.proofs.Orders.{Clear, clear_accepted}
 use Rattle.refusals.proofs.Legal.{LegalWords}
-use Rattle.refusals.proofs.Verdicts.{still_open, passed}
+use Rattle.refusals.proofs.Verdicts.{still_open}
 use Rattle.refusals.proofs.Settled.{verdict_known, verdict_settled, encode_parameters_settled, close_parameters_settled}
-use Rattle.frame_portions.specs.declared.Row.{Row}
 use Rattle.frame_portions.specs.declared.Progress.{Progress}
 use Rattle.encoding.specs.Outcome.{Coded, EncodeOutcome}
 use Rattle.encoding.specs.Rows.{in_row, rows_entered, no_rows}
-use Rattle.frame_portions.specs.Portions.{octet_rows, held_rows, none_taken, taken, closing, PortionOutcome, Checks, CloseOutcome, Given, none, more, joined}
+use Rattle.frame_portions.specs.Portions.{none_taken, taken, closing, PortionOutcome, Checks, CloseOutcome, Given, none, more, joined}
 use Rattle.encoding.proofs.Interleaving.{symbol_below}
 use Rattle.encoding.proofs.RowTurns.{entered-++}
 use Rattle.encoding.proofs.CodedBlocks.{checks_fit, block-coded, outcome_legal, frame-octets}
@@ -33,29 +31,17 @@ use Rattle.frame_portions.proofs.PortionSteps.{PortionLegal, portion_legal, Clos
 
 -- ---- the state
 
--- rows and their octets are the same, either way
-pub held_octets : (lists : List (List ℕ)) → octet_rows (held_rows lists) ≡ lists
-held_octets [] = refl
-held_octets (octets ∷ lists) = ap {B = List (List ℕ)} (λ (l : List (List ℕ)). octets ∷ l) (held_octets lists)
-
-pub octets_held : (rows : List Row) → held_rows (octet_rows rows) ≡ rows
-octets_held [] = refl
-octets_held (row ∷ rows) = ap {B = List Row} (λ (l : List Row). row ∷ l) (octets_held rows)
-
 taken_none : (e i : ℕ) (state : Progress) → taken e i state [] ≡ state
 unfolding rows_entered
 taken_none e i state =
-    ap₂ {C = Progress} (λ (n : ℕ) (rows : List Row). record { place = n; closed = state.closed; rows = rows }) (add-zero state.place) (octets_held state.rows)
+    ap (λ (n : ℕ). record { place = n; closed = state.closed; rows = state.rows }) (add-zero state.place)
 
 -- symbols in two parts leave the state of all of them; so the state is that of the symbols one by one
 pub taken-++ : (e i : ℕ) (state : Progress) (a b : List ℕ) → taken e i (taken e i state a) b ≡ taken e i state (a ++ b)
 taken-++ e i state a b =
-    ap₂ {C = Progress} (λ (n : ℕ) (rows : List Row). record { place = n; closed = state.closed; rows = rows })
+    ap₂ {C = Progress} (λ (n : ℕ) (rows : List (List ℕ)). record { place = n; closed = state.closed; rows = rows })
     (add_assoc state.place (length a) (length b) ∙ ap (λ (n : ℕ). state.place + n) (sym (length-append a b)))
-    (ap held_rows
-    (ap (λ (list : List (List ℕ)). rows_entered (in_row e) i (state.place + length a) list b)
-    (held_octets (rows_entered (in_row e) i state.place (octet_rows state.rows) a))
-    ∙ sym (entered-++ (in_row e) i a b state.place (octet_rows state.rows))))
+    (sym (entered-++ (in_row e) i a b state.place state.rows))
 
 -- ---- portions one after another
 
@@ -71,14 +57,14 @@ portion_accepted e i q portion written place closed legal small fits unclosed wi
     words : Clear (word_parameters e i q)
     words = words_clear e i q legal
 
-module _ (e i q : ℕ) (state : Progress) (portion before : List ℕ) (next : Progress) (after : List ℕ) (P : PortionOutcome e i q state portion before Accepted next after) where
+module _ (e i q : ℕ) (state : Progress) (portion before : List ℕ) (next : Progress) (after : List ℕ) (P : PortionOutcome e i q state portion before (Ok tt) next after) where
   abbrev legal_portion : PortionLegal e i q (length portion) (length before) state.place state.closed
   legal_portion = portion_legal e i q (length portion) (length before) state.place state.closed P.number
 
   next_place_lem : next.place ≡ state.place + length portion
   next_place_lem = ap (λ (s : Progress). s.place) (P.accepted refl).0
 
-module _ (e i q : ℕ) (s t u : Progress) (a b roomA roomB x y : List ℕ) (A : PortionOutcome e i q s a roomA Accepted t x) (B : PortionOutcome e i q t b roomB Accepted u y) where
+module _ (e i q : ℕ) (s t u : Progress) (a b roomA roomB x y : List ℕ) (A : PortionOutcome e i q s a roomA (Ok tt) t x) (B : PortionOutcome e i q t b roomB (Ok tt) u y) where
   -- two portions leave the state, and write the octets, of the joined one
   pub joined_portions : (u ≡ taken e i s (a ++ b)) × (x ++ y ≡ a ++ b)
   joined_portions = (
@@ -87,7 +73,7 @@ module _ (e i q : ℕ) (s t u : Progress) (a b roomA roomB x y : List ℕ) (A : 
   )
 
   -- which is accepted where it is not over 300 octets
-  pub joined_accepted : (room : List ℕ) → length (a ++ b) ≤ 300 → length room ≡ length (a ++ b) → PortionOutcome e i q s (a ++ b) room Accepted u (x ++ y)
+  pub joined_accepted : (room : List ℕ) → length (a ++ b) ≤ 300 → length room ≡ length (a ++ b) → PortionOutcome e i q s (a ++ b) room (Ok tt) u (x ++ y)
   joined_accepted room small fits =
       record {
         number = portion_accepted e i q (length (a ++ b)) (length room) s.place s.closed first.words small fits first.unclosed
@@ -136,9 +122,9 @@ cut_accepted e i q state (portion ∷ portions) legal unclosed small within =
 
 -- and a close at the frame's end
 pub close_accepted : (e i q : ℕ) (state : Progress) (before : List ℕ) (answer : Verdict) (next : Progress) (after : List ℕ) → CloseOutcome e i q state before answer next after
-    → LegalWords e i q → state.closed ≡ false → state.place ≡ frame_length e i q → length before ≡ checks_length e i → answer ≡ Accepted
+    → LegalWords e i q → state.closed ≡ false → state.place ≡ frame_length e i q → length before ≡ checks_length e i → answer ≡ (Ok tt)
 close_accepted e i q state before answer next after K legal unclosed whole fits =
-    close_parameters_settled answer Accepted e i q (length before) state.place state.closed K.number
+    close_parameters_settled answer (Ok tt) e i q (length before) state.place state.closed K.number
     (clear_accepted (close_order e i q (length before) state.place state.closed)
     (words.0, (words.1.0, (words.1.1.0, (λ n. n fits, (still_open state.closed unclosed (λ n. n whole), tt))))))
   where
@@ -166,7 +152,7 @@ close_within e i q state before answer next after K =
 -- ---- however the frame is cut
 
 module _ (e i q : ℕ) (portions : List (List ℕ)) (written : List ℕ) (end : Progress) (G : Given e i q none_taken portions written end)
-    (room checks : List ℕ) (last : Progress) (K : CloseOutcome e i q end room Accepted last checks) where
+    (room checks : List ℕ) (last : Progress) (K : CloseOutcome e i q end room (Ok tt) last checks) where
   abbrev frame : List ℕ
   frame = joined portions
 
@@ -182,10 +168,8 @@ module _ (e i q : ℕ) (portions : List (List ℕ)) (written : List ℕ) (end : 
   block_is : frame ++ checks ≡ written ++ checks
   block_is = ap {B = List ℕ} (λ (l : List ℕ). l ++ checks) (sym (given_taken e i q none_taken end portions written G).1)
 
-  rows_are : octet_rows end.rows ≡ rows_entered (in_row e) i 0 no_rows frame
-  rows_are =
-      ap (λ (s : Progress). octet_rows s.rows) end_is ∙ held_octets (rows_entered (in_row e) i 0 (octet_rows (held_rows no_rows)) frame)
-      ∙ ap (λ (list : List (List ℕ)). rows_entered (in_row e) i 0 list frame) (held_octets no_rows)
+  rows_are : end.rows ≡ rows_entered (in_row e) i 0 no_rows frame
+  rows_are = ap (λ (s : Progress). s.rows) end_is
 
   module _ (before : List ℕ) (fits : length before ≡ block_length i q) (answer : Verdict) (block : List ℕ) (E : EncodeOutcome e i q frame before answer block) where
     first : FirstOf (encode_order e i q (length frame) (length before)) 0
@@ -193,8 +177,8 @@ module _ (e i q : ℕ) (portions : List (List ℕ)) (written : List ℕ) (end : 
         let words : Clear (word_parameters e i q) = words_clear e i q legal.words in
         clear_accepted (encode_order e i q (length frame) (length before)) (words.0, (words.1.0, (words.1.1.0, (λ n. n whole, (λ n. n fits, tt)))))
 
-    accepted : answer ≡ Accepted
-    accepted = encode_parameters_settled answer Accepted e i q (length frame) (length before) E.number first
+    accepted : answer ≡ (Ok tt)
+    accepted = encode_parameters_settled answer (Ok tt) e i q (length frame) (length before) E.number first
 
     coded : Coded e i q frame (frame ++ checks)
     coded =
@@ -202,7 +186,7 @@ module _ (e i q : ℕ) (portions : List (List ℕ)) (written : List ℕ) (end : 
         (λ j w l h. get_or-append-add frame checks (j * i + w) 0 ∙ (K.accepted refl).1.octet j w l h ∙ ap (λ (list : List (List ℕ)). get_or (get_or list w []) j 0) rows_are)
         (frame-octets e i q frame block (outcome_legal e i q frame before block answer E (ap verdict_number accepted)) (E.accepted (ap verdict_number accepted)))
 
-    permitted : EncodeOutcome e i q frame before Accepted (frame ++ checks)
+    permitted : EncodeOutcome e i q frame before (Ok tt) (frame ++ checks)
     permitted =
         record {
           number = first;
@@ -216,8 +200,8 @@ module _ (e i q : ℕ) (portions : List (List ℕ)) (written : List ℕ) (end : 
         twice = omega arith
 
     -- the octets written, and then the checks, are the block that encode's contract permits; the state is that of the single symbols, closed
-    pub cut_anyhow : (answer ≡ Accepted) × (block ≡ written ++ checks) × (last ≡ closing (taken e i none_taken frame))
-    cut_anyhow = (accepted, (encode_settled e i q frame before answer Accepted block (frame ++ checks) E permitted).1 ∙ block_is, (K.accepted refl).0 ∙ ap closing end_is)
+    pub cut_anyhow : (answer ≡ (Ok tt)) × (block ≡ written ++ checks) × (last ≡ closing (taken e i none_taken frame))
+    cut_anyhow = (accepted, (encode_settled e i q frame before answer (Ok tt) block (frame ++ checks) E permitted).1 ∙ block_is, (K.accepted refl).0 ∙ ap closing end_is)
 
 -- ---- 14
 
@@ -252,10 +236,10 @@ closed_close e i q state before answer next after K closed clear =
 -- two outcomes by one order are equal where those that are accepted are: a refusal leaves state and output as they were
 same_outcome : (order : List Check) (state : Progress) (before : List ℕ) (v w : Verdict) (s t : Progress) (a b : List ℕ)
     → FirstOf order (verdict_number v) → FirstOf order (verdict_number w) → (verdict_number v ≢ 0 → (s ≡ state) × (a ≡ before)) → (verdict_number w ≢ 0 → (t ≡ state) × (b ≡ before))
-    → (v ≡ Accepted → verdict_number v ≡ 0 → verdict_number w ≡ 0 → (s ≡ t) × (a ≡ b)) → (v ≡ w) × (s ≡ t) × (a ≡ b)
+    → (v ≡ (Ok tt) → verdict_number v ≡ 0 → verdict_number w ≡ 0 → (s ≡ t) × (a ≡ b)) → (v ≡ w) × (s ≡ t) × (a ≡ b)
 same_outcome order state before v w s t a b f g r u same =
     elim (ℕ_discrete (verdict_number v) 0) [
-      | yes z ↦ let both : (s ≡ t) × (a ≡ b) = same (verdict_known v Accepted z) z (sym number ∙ z) in (answer, both.0, both.1)
+      | yes z ↦ let both : (s ≡ t) × (a ≡ b) = same (verdict_known v (Ok tt) z) z (sym number ∙ z) in (answer, both.0, both.1)
       | no n ↦ let other : verdict_number w ≢ 0 = λ z. n (number ∙ z) in (answer, (r n).0 ∙ sym (u other).0, (r n).1 ∙ sym (u other).1)
     ]
   where
@@ -284,17 +268,11 @@ pub close_settled : (e i q : ℕ) (state : Progress) (before : List ℕ) (v w : 
     → CloseOutcome e i q state before v s a → CloseOutcome e i q state before w t b → (v ≡ w) × (s ≡ t) × (a ≡ b)
 close_settled e i q state before v w s t a b A B =
     same_outcome (close_order e i q (length before) state.place state.closed) state before v w s t a b A.number B.number A.refused B.refused
-    (λ accepts y z. ((A.accepted y).0 ∙ sym (B.accepted z).0, checks_unique e i (octet_rows state.rows) a b (some accepts) (A.accepted y).1 (B.accepted z).1))
+    (λ accepts y z. ((A.accepted y).0 ∙ sym (B.accepted z).0, checks_unique e i state.rows a b (some accepts) (A.accepted y).1 (B.accepted z).1))
   where
-    some : v ≡ Accepted → 0 < i
-    some accepts = omega (arith, (close_legal e i q (length before) state.place state.closed (passed (close_order e i q (length before) state.place state.closed) v accepts A.number)).words.some)
+    some : v ≡ (Ok tt) → 0 < i
+    some accepts = omega (arith, (close_legal e i q (length before) state.place state.closed (subst (FirstOf (close_order e i q (length before) state.place state.closed)) (ap verdict_number accepts) A.number)).words.some)
 
 -- what is stated as an equation
 pub start_settled : (s t : Progress) → s ≡ none_taken → t ≡ none_taken → s ≡ t
 start_settled s t a b = a ∙ sym b
-
-pub octet_rows_settled : (rows : List Row) (a b : List (List ℕ)) → a ≡ octet_rows rows → b ≡ octet_rows rows → a ≡ b
-octet_rows_settled rows a b p q = p ∙ sym q
-
-pub held_rows_settled : (lists : List (List ℕ)) (a b : List Row) → a ≡ held_rows lists → b ≡ held_rows lists → a ≡ b
-held_rows_settled lists a b p q = p ∙ sym q

@@ -1,31 +1,15 @@
 -- A frame in portions: the state between them, and what a portion and a close promise (document 02, (ii)).
-use Rattle.std.specs.Prelude.{◌≡◌, true, false, ◌≢◌, List, [], ◌∷◌, ◌++◌, map, ℕ, ◌+◌, ◌*◌, ◌<◌, length, get_or}
+use Rattle.std.specs.Prelude.{◌≡◌, true, false, ◌≢◌, List, [], ◌∷◌, ◌++◌, Ok, ℕ, ◌+◌, ◌*◌, ◌<◌, length, get_or}
 use Rattle.refusals.specs.Order.{FirstOf}
 use Rattle.refusals.specs.Sizes.{checks_length}
-use Rattle.refusals.specs.Numbers.{verdict_number}
+use Rattle.refusals.specs.Numbers.{Verdict, verdict_number}
 use Rattle.refusals.specs.Calls.{portion_order, close_order}
-use Rattle.refusals.specs.declared.Verdict.{Verdict}
-use Rattle.refusals.specs.declared.Verdict.TheVariants.{Accepted}
-use Rattle.frame_portions.specs.declared.Row.{Row}
 use Rattle.frame_portions.specs.declared.Progress.{Progress}
 use Rattle.encoding.specs.Rows.{in_row, rows_entered, no_rows}
 
--- The octets of a row and the row of octets, so for all rows of a state.
-abbrev pub octets_of : Row → List ℕ
-octets_of row = row.octets
-
-abbrev pub row_of : List ℕ → Row
-row_of octets = record { octets = octets }
-
-abbrev pub octet_rows : List Row → List (List ℕ)
-octet_rows rows = map octets_of rows
-
-abbrev pub held_rows : List (List ℕ) → List Row
-held_rows lists = map row_of lists
-
 -- The state before the first symbol.
 abbrev pub none_taken : Progress
-none_taken = record { place = 0; closed = false; rows = held_rows no_rows }
+none_taken = record { place = 0; closed = false; rows = no_rows }
 
 -- The state when symbols have entered, each the row of its word; and when it is closed.
 abbrev pub taken : ℕ → ℕ → Progress → List ℕ → Progress
@@ -33,7 +17,7 @@ taken e i state symbols =
     record {
       place = state.place + length symbols;
       closed = state.closed;
-      rows = held_rows (rows_entered (in_row e) i state.place (octet_rows state.rows) symbols);
+      rows = rows_entered (in_row e) i state.place state.rows symbols;
     }
 
 abbrev pub closing : Progress → Progress
@@ -54,13 +38,13 @@ pub record Checks (e i : ℕ) (rows : List (List ℕ)) (checks : List ℕ) : Typ
 pub record CloseOutcome (e i q : ℕ) (state : Progress) (before : List ℕ) (answer : Verdict) (next : Progress) (after : List ℕ) : Type 0 where
   pub number : FirstOf (close_order e i q (length before) state.place state.closed) (verdict_number answer)
   pub refused : verdict_number answer ≢ 0 → (next ≡ state) × (after ≡ before)
-  pub accepted : verdict_number answer ≡ 0 → (next ≡ closing state) × Checks e i (octet_rows state.rows) after
+  pub accepted : verdict_number answer ≡ 0 → (next ≡ closing state) × Checks e i state.rows after
 
 -- Portions given one after another from a state, all accepted: what they wrote, joined, and the state that they leave.
 pub data Given (e i q : ℕ) : Progress → List (List ℕ) → List ℕ → Progress → Type 0 where
   none : {state : Progress} → Given e i q state [] [] state
   more : {state next end : Progress} {portion before after written : List ℕ} {portions : List (List ℕ)}
-      → PortionOutcome e i q state portion before Accepted next after → Given e i q next portions written end
+      → PortionOutcome e i q state portion before (Ok tt) next after → Given e i q next portions written end
       → Given e i q state (portion ∷ portions) (after ++ written) end
 
 -- The frame that portions are cut from.
