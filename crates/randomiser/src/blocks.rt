@@ -4,7 +4,7 @@ ghost use Rattle.randomiser.specs.Sequence.{randomised};
 ghost use Rattle.randomiser.specs.Outcome.{RandomiseOutcome};
 
 use crate::Register;
-use refusals::Verdict;
+use refusals::Parameter;
 
 fn add_sequence(block: &mut [u8])
     ensures { block.new ≡ randomised block.old }
@@ -15,13 +15,10 @@ fn add_sequence(block: &mut [u8])
     }
 }
 
-pub fn randomise(block: &mut [u8]) -> Verdict
+pub fn randomise(block: &mut [u8]) -> Result<(), Parameter>
     ensures { RandomiseOutcome block.old result block.new }
 {
-    let verdict = refusals::randomise_parameters(block.len());
-    if let Verdict::Refused(parameter) = verdict {
-        return Verdict::Refused(parameter);
-    }
+    refusals::randomise_parameters(block.len())?;
     add_sequence(block);
-    Verdict::Accepted
+    Ok(())
 }

@@ -1,6 +1,6 @@
 -- `likeliest_parameters` looks at the register, then at the symbols, then at the data.
 use mathlib.Core.Path.{◌≡◌, refl}
-use mathlib.Core.Logic.{◌≢◌, ◌⊎◌, inl, inr}
+use mathlib.Core.Logic.{◌≢◌, ◌⊎◌, inl, inr, ⊎_elim}
 use Prim.Native.Nat.{ℕ, ◌%◌, ◌≤◌, ◌<◌}
 use native.Mathlib.Omega.{arith}
 use Rattle.refusals.proofs.likeliest.likeliest_parameters.Goals as goal
@@ -14,10 +14,7 @@ pub returns-then-register-gt63 : goal.returns-then-register-gt63
 returns-then-register-gt63 c = inl (omega arith, refl)
 
 pub returns-then-symbols-eq1 : goal.returns-then-symbols-eq1
-returns-then-symbols-eq1 c = inr (λ h. omega arith, inl (inl (omega arith), refl))
-
-pub returns-then-symbols-gt512 : goal.returns-then-symbols-gt512
-returns-then-symbols-gt512 c = inr (λ h. omega arith, inl (inr (omega arith), refl))
+returns-then-symbols-eq1 c = inr (λ h. omega arith, inl (⊎_elim inl (λ p. inr p.1) c.then-symbols-eq1.either, refl))
 
 pub returns-then-data-symbols : goal.returns-then-data-symbols
 returns-then-data-symbols c = inr (λ h. omega arith, inr (even-within _ (omega arith) (omega arith), inl (c.if-data-symbols.true, refl)))

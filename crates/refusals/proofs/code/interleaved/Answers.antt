@@ -2,7 +2,7 @@
 use borrow.Author.Rules.{rules}
 use native.Mathlib.Nat.{lt_of_le_of_lt, mul-le-mul}
 use lib.Dec.{lit<}
-use Rattle.refusals.proofs.checks.interleaved.Goals as goal
+use Rattle.refusals.proofs.code.interleaved.Goals as goal
 
 pub overflow_mul-result : goal.overflow_mul-result
 overflow_mul-result c = record { fits = lt_of_le_of_lt (mul-le-mul c.requires.0 c.requires.1) (lit< tt) }
