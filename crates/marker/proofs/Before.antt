@@ -1,16 +1,15 @@
 -- The marker's test and search as they were before the complement was known, and that with a true marker every answer of theirs stands.
-use Rattle.std.proofs.Common.{◌≡◌, ℕ, zero, suc, ◌+◌, ◌-◌, ◌<◌, ◌≤◌, ◌⊎◌, List, length, sym, refl, ap, ◌∙◌, arith}
+use Rattle.std.proofs.Common.{◌≡◌, ℕ, zero, suc, ◌+◌, ◌-◌, ◌<◌, ◌≤◌, ◌⊎◌, List, length, Ok, Err, IfOk, sym, refl, ap, ◌∙◌, arith}
 use lib.Bits.{differ}
 use Rattle.octets.specs.Bits.{bit_at}
 use Rattle.refusals.specs.Order.{FirstOf}
 use Rattle.refusals.specs.Calls.{marker_order, search_order}
 use Rattle.marker.specs.declared.Form.{Form}
 use Rattle.marker.specs.declared.Form.TheVariants.{True}
-use Rattle.marker.specs.declared.Tested.{Tested}
 use Rattle.marker.specs.declared.Searched.{Searched}
-use Rattle.marker.specs.declared.Searched.TheVariants.{Found, Absent, Spent, Refused}
+use Rattle.marker.specs.declared.Searched.TheVariants.{Found, Absent, Spent}
 use Rattle.marker.specs.Place.{marker, wrong_among, wrong_bits, form_at, fewest_wrong, Place, remaining}
-use Rattle.marker.specs.Outcome.{tested_number, tested_value, searched_number, TestOutcome, Looked, SearchOutcome}
+use Rattle.marker.specs.Outcome.{TestAnswer, SearchAnswer, tested_number, tested_value, searched_number, TestOutcome, Looked, SearchOutcome}
 use Rattle.marker.proofs.Forms.{named_form_wrong, form_fits}
 
 -- ---- the definitions of before
@@ -28,7 +27,7 @@ FitsBefore tolerance stream p = wrong_bits_before stream p ≤ tolerance
 abbrev pub NoneFitsBefore : ℕ → List ℕ → ℕ → ℕ → Type 0
 NoneFitsBefore tolerance stream start end = (p : ℕ) → start ≤ p → p < end → FitsBefore tolerance stream p → ⊥
 
-pub record TestBefore (tolerance : ℕ) (octets : List ℕ) (answer : Tested) : Type 0 where
+pub record TestBefore (tolerance : ℕ) (octets : List ℕ) (answer : TestAnswer) : Type 0 where
   pub number : FirstOf (marker_order tolerance (length octets) (wrong_bits_before octets 0)) (tested_number answer)
   pub value : (tested_number answer ≡ 0) ⊎ (tested_number answer ≡ 9) → tested_value answer ≡ wrong_bits_before octets 0
 
@@ -57,11 +56,10 @@ abbrev pub LookedBefore : ℕ → List ℕ → ℕ → ℕ → Searched → Type
 LookedBefore tolerance stream start budget (Found place form wrong looked) = FoundBefore tolerance stream start budget place wrong looked
 LookedBefore tolerance stream start budget (Absent looked) = NoneLeftBefore tolerance stream start budget looked
 LookedBefore tolerance stream start budget (Spent next looked) = SpentBefore tolerance stream start budget next looked
-LookedBefore tolerance stream start budget (Refused p) = ⊥
 
-pub record SearchBefore (tolerance : ℕ) (stream : List ℕ) (start budget : ℕ) (answer : Searched) : Type 0 where
+pub record SearchBefore (tolerance : ℕ) (stream : List ℕ) (start budget : ℕ) (answer : SearchAnswer) : Type 0 where
   pub number : FirstOf (search_order tolerance (length stream) start) (searched_number answer)
-  pub looked : searched_number answer ≡ 0 → LookedBefore tolerance stream start budget answer
+  pub looked : IfOk answer (LookedBefore tolerance stream start budget)
 
 -- ---- they stand
 
@@ -80,7 +78,7 @@ fitted : (tolerance : ℕ) (stream : List ℕ) (p : ℕ) → FitsBefore toleranc
 fitted tolerance stream p fits = form_fits tolerance stream p True (omega (arith, as_true 32 stream p))
 
 -- With a true marker the test answers as before, accepted or refused.
-pub test_true_as_before : (tolerance : ℕ) (octets : List ℕ) (answer : Tested) → form_at octets 0 ≡ True → TestOutcome tolerance octets answer → TestBefore tolerance octets answer
+pub test_true_as_before : (tolerance : ℕ) (octets : List ℕ) (answer : TestAnswer) → form_at octets 0 ≡ True → TestOutcome tolerance octets answer → TestBefore tolerance octets answer
 test_true_as_before tolerance octets answer true O =
     record {
       number = rw (fewest_as_before octets 0 true) at O.number;
@@ -88,18 +86,19 @@ test_true_as_before tolerance octets answer true O =
     }
 
 -- No complement was found.
-abbrev pub TrueIfFound : Searched → Type 0
-TrueIfFound (Found place form wrong looked) = form ≡ True
-TrueIfFound (Absent looked) = Unit
-TrueIfFound (Spent next looked) = Unit
-TrueIfFound (Refused p) = Unit
+abbrev pub TrueIfFound : SearchAnswer → Type 0
+TrueIfFound (Ok (Found place form wrong looked)) = form ≡ True
+TrueIfFound (Ok (Absent looked)) = Unit
+TrueIfFound (Ok (Spent next looked)) = Unit
+TrueIfFound (Err p) = Unit
 
 -- The search answers as before, unless it finds a complement first.
-pub search_true_as_before : (tolerance : ℕ) (stream : List ℕ) (start budget : ℕ) (answer : Searched) → TrueIfFound answer → SearchOutcome tolerance stream start budget answer
+pub search_true_as_before : (tolerance : ℕ) (stream : List ℕ) (start budget : ℕ) (answer : SearchAnswer) → TrueIfFound answer → SearchOutcome tolerance stream start budget answer
     → SearchBefore tolerance stream start budget answer
-search_true_as_before tolerance stream start budget answer true O = record { number = O.number; looked = λ z. seen answer true (O.looked z) }
+search_true_as_before tolerance stream start budget (Err p) true O = record { number = O.number; looked = tt }
+search_true_as_before tolerance stream start budget (Ok answer) true O = record { number = O.number; looked = seen answer true O.looked }
   where
-    seen : (a : Searched) → TrueIfFound a → Looked tolerance stream start budget a → LookedBefore tolerance stream start budget a
+    seen : (a : Searched) → TrueIfFound (Ok a) → Looked tolerance stream start budget a → LookedBefore tolerance stream start budget a
     seen (Found place form wrong looked) true F =
         let same : fewest_wrong stream place ≡ wrong_bits_before stream place = fewest_as_before stream place (sym F.named ∙ true) in
         record {
@@ -115,4 +114,3 @@ search_true_as_before tolerance stream start budget answer true O = record { num
         record { none = λ p l place f. N.none p l place (fitted tolerance stream p f); counted = N.counted; affordable = N.affordable }
     seen (Spent next looked) true S =
         record { inside = S.inside; none = λ p l h f. S.none p l h (fitted tolerance stream p f); reached = S.reached; counted = S.counted }
-    seen (Refused p) true N = N

@@ -1,5 +1,5 @@
 -- Octets with all bits inverted: each form has the wrong bits that the other had, so that the test and the search answer alike and name the other form.
-use Rattle.std.proofs.Common.{◌≡◌, ℕ, zero, suc, ◌+◌, ◌-◌, ◌*◌, ◌<◌, ◌≤◌, List, length, get_or, sym, refl, ap, ◌∙◌, ap₂, arith}
+use Rattle.std.proofs.Common.{◌≡◌, ℕ, zero, suc, ◌+◌, ◌-◌, ◌*◌, ◌<◌, ◌≤◌, List, length, get_or, Ok, Err, sym, refl, ap, ◌∙◌, ap₂, arith}
 use native.Mathlib.Decide.{dec_lt}
 use lib.Bits.{differ}
 use Rattle.octets.specs.Bits.{bit_at, inverted}
@@ -7,9 +7,9 @@ use Rattle.octets.proofs.Inversion.{inverted-length, bit-inverted}
 use Rattle.marker.specs.declared.Form.{Form}
 use Rattle.marker.specs.declared.Form.TheVariants.{True, Complement}
 use Rattle.marker.specs.declared.Searched.{Searched}
-use Rattle.marker.specs.declared.Searched.TheVariants.{Found, Absent, Spent, Refused}
+use Rattle.marker.specs.declared.Searched.TheVariants.{Found, Absent, Spent}
 use Rattle.marker.specs.Place.{marker_bit, wrong_among, wrong_bits, nearer, fewer, form_at, fewest_wrong, Place, NoneFits}
-use Rattle.marker.specs.Outcome.{searched_number, Looked, SearchOutcome}
+use Rattle.marker.specs.Outcome.{SearchAnswer, Looked, SearchOutcome}
 use Rattle.marker.proofs.Forms.{nearer-true, nearer_complement, complement_wrong}
 use Rattle.marker.proofs.Searches.{legal_given}
 use Rattle.marker.proofs.Settled.{search_settled}
@@ -77,11 +77,14 @@ module _ (stream : List ℕ) (small : (j : ℕ) → get_or stream j 0 < 256) whe
   -- ---- the search
 
   -- An answer with the other form.
-  abbrev pub in_other_form : Searched → Searched
-  in_other_form (Found place form wrong looked) = Found place (other_form form) wrong looked
-  in_other_form (Absent looked) = Absent looked
-  in_other_form (Spent next looked) = Spent next looked
-  in_other_form (Refused p) = Refused p
+  abbrev pub seen_in_other_form : Searched → Searched
+  seen_in_other_form (Found place form wrong looked) = Found place (other_form form) wrong looked
+  seen_in_other_form (Absent looked) = Absent looked
+  seen_in_other_form (Spent next looked) = Spent next looked
+
+  abbrev pub in_other_form : SearchAnswer → SearchAnswer
+  in_other_form (Ok seen) = Ok (seen_in_other_form seen)
+  in_other_form (Err p) = Err p
 
   same_length : length (inverted stream) ≡ length stream
   same_length = inverted-length stream
@@ -90,8 +93,8 @@ module _ (stream : List ℕ) (small : (j : ℕ) → get_or stream j 0 < 256) whe
   none_inverted tolerance start end inside none p from before fits =
       none p from before (omega (arith, fewest_inverted p (omega arith)))
 
-  looked_inverted : (tolerance start budget : ℕ) → tolerance ≤ 3 → (answer : Searched) → Looked tolerance stream start budget answer
-      → Looked tolerance (inverted stream) start budget (in_other_form answer)
+  looked_inverted : (tolerance start budget : ℕ) → tolerance ≤ 3 → (seen : Searched) → Looked tolerance stream start budget seen
+      → Looked tolerance (inverted stream) start budget (seen_in_other_form seen)
   looked_inverted tolerance start budget legal (Found place form wrong looked) F =
       record {
         from = F.from;
@@ -109,7 +112,6 @@ module _ (stream : List ℕ) (small : (j : ℕ) → get_or stream j 0 < 256) whe
         counted = N.counted ∙ rw same_length;
         affordable = N.affordable;
       }
-  looked_inverted tolerance start budget legal (Refused _) F = elim F [ ]
   looked_inverted tolerance start budget legal (Spent next looked) S =
       record {
         inside = omega (arith, same_length, S.inside);
@@ -118,19 +120,14 @@ module _ (stream : List ℕ) (small : (j : ℕ) → get_or stream j 0 < 256) whe
         counted = S.counted;
       }
 
-  number-inverted : (answer : Searched) → searched_number (in_other_form answer) ≡ searched_number answer
-  number-inverted (Found place form wrong looked) = refl
-  number-inverted (Absent looked) = refl
-  number-inverted (Spent next looked) = refl
-  number-inverted (Refused p) = refl
+  outcome_inverted : (tolerance start budget : ℕ) (answer : SearchAnswer) → SearchOutcome tolerance stream start budget answer
+      → SearchOutcome tolerance (inverted stream) start budget (in_other_form answer)
+  outcome_inverted tolerance start budget (Ok seen) O =
+      record { number = rw same_length O.number; looked = looked_inverted tolerance start budget (legal_given O.number).0 seen O.looked }
+  outcome_inverted tolerance start budget (Err p) O = record { number = rw same_length O.number; looked = tt }
 
   -- A stream with all bits inverted is searched with the same answer, place, wrong bits and number looked at; a marker found is of the other form.
-  pub complement_searched : (tolerance start budget : ℕ) (answer answer' : Searched) → SearchOutcome tolerance stream start budget answer
+  pub complement_searched : (tolerance start budget : ℕ) (answer answer' : SearchAnswer) → SearchOutcome tolerance stream start budget answer
       → SearchOutcome tolerance (inverted stream) start budget answer' → answer' ≡ in_other_form answer
   complement_searched tolerance start budget answer answer' O O' =
-      search_settled tolerance (inverted stream) start answer' (in_other_form answer) O'
-      (record {
-        number = rw (number-inverted answer, same_length) O.number;
-        looked = λ z. let accepted : searched_number answer ≡ 0 = sym (number-inverted answer) ∙ z in
-            looked_inverted tolerance start budget (legal_given (rw accepted at O.number)).0 answer (O.looked accepted);
-      })
+      search_settled tolerance (inverted stream) start answer' (in_other_form answer) O' (outcome_inverted tolerance start budget answer O)

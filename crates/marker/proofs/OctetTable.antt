@@ -1,5 +1,5 @@
 -- What octets add to eight counts, by their halves and by a table; and that three octets give the counts.
-use Rattle.std.proofs.Common.{◌≡◌, ℕ, ◌+◌, ◌*◌, ◌/◌, ◌%◌, ◌^◌, ◌<◌, ◌≤◌, List, length, get_or, set, sym, ap, ◌∙◌, ap₂, arith, length-set, get_or-set_other, get_or-set_same}
+use Rattle.std.proofs.Common.{◌≡◌, ℕ, ◌+◌, ◌*◌, ◌/◌, ◌%◌, ◌^◌, ◌<◌, ◌≤◌, List, get_or, set, sym, ap, ◌∙◌, ap₂, arith, length-set, get_or-set_other, get_or-set_same}
 use native.Mathlib.Decide.{ℕ_discrete}
 use Rattle.marker.specs.Working.{lanes, wrong_of, half_adds, octet_adds, Filled, common_wrong}
 use Rattle.marker.proofs.Packed.{lanes-sum, lanes-same, lanes_most}
@@ -44,14 +44,7 @@ pub row-sum : {halves : List ℕ} (row low : ℕ) → row < 48 → low < 16 → 
     → get_or halves (32 * (row / 16) + row % 16) 0 + get_or halves (32 * (row / 16) + 16 + low) 0 ≡ octet_adds (16 * row + low)
 row-sum row low h l F = ap₂ ◌+◌ (F.each (32 * (row / 16) + row % 16) (omega arith)) (F.each (32 * (row / 16) + 16 + low) (omega arith)) ∙ octet_halves row low l
 
--- ---- a table that is filled
-
-pub filled_none : (f : ℕ → ℕ) (most : ℕ) (list : List ℕ) → length list ≡ most → Filled f most list 0
-filled_none f most list size = record { size = size; each = λ n h. absurd (omega arith) }
-
-pub filled_upto : {f : ℕ → ℕ} {most : ℕ} {list : List ℕ} {count : ℕ} (new : ℕ) → new ≡ count → Filled f most list count → Filled f most list new
-filled_upto new e F = record { size = F.size; each = λ n h. F.each n (omega arith) }
-
+-- One place more of a table is filled.
 pub filled_turn : (f : ℕ → ℕ) (most : ℕ) (list : List ℕ) (count value : ℕ) → count < most → value ≡ f count → Filled f most list count → Filled f most (set list count value) (count + 1)
 filled_turn f most list count value room is F =
     record {

@@ -1,10 +1,9 @@
 -- A search that goes on from a place up to which none fits: what it answers there, with the places passed counted, it answers from the start.
 use Rattle.std.proofs.Common.{◌≡◌, ℕ, ◌+◌, ◌-◌, ◌≤◌, List, refl, arith}
 use native.Mathlib.Decide.{dec_lt}
-use Rattle.refusals.specs.declared.Parameter.{Parameter}
 use Rattle.marker.specs.declared.Form.{Form}
 use Rattle.marker.specs.declared.Searched.{Searched}
-use Rattle.marker.specs.declared.Searched.TheVariants.{Found, Absent, Spent, Refused}
+use Rattle.marker.specs.declared.Searched.TheVariants.{Found, Absent, Spent}
 use Rattle.marker.specs.Place.{NoneFits, remaining}
 use Rattle.marker.specs.Outcome.{FoundFirst, NoneLeft, BudgetSpent, Looked}
 
@@ -41,11 +40,6 @@ module _ (tolerance : ℕ) (stream : List ℕ) where
       }
   more_budget start n budget (Absent looked) N unspent more = record { none = N.none; counted = N.counted; affordable = omega (arith, N.affordable) }
   more_budget start n budget (Spent next looked) S unspent more = absurd (unspent next looked refl)
-  more_budget start n budget (Refused p) N unspent more = N
-
-  -- An answer of a walk is no refusal.
-  pub no_refusal : (start n : ℕ) {Anything : Type 0} (answer : Searched) {p : Parameter} → answer ≡ Refused p → Looked tolerance stream start n answer → Anything
-  no_refusal start n answer is seen = absurd (rw is at seen)
 
   module _ {start budget passed : ℕ} (room : passed ≤ budget) (inside : passed ≤ remaining stream start) (front : NoneFits tolerance stream start (start + passed)) where
     abbrev After : Searched → Type 0

@@ -1,50 +1,13 @@
--- What the marker test answers after its checks of parameters: refused as they refused, else as the wrong bits decide.
-use Rattle.std.proofs.Common.{◌≡◌, ℕ, ◌<◌, ◌≤◌, List, [], ◌∷◌, length, refl, inl, inr, ⊎_elim, arith}
+-- What the marker test's checks of parameters, passed, say of the numbers.
+use Rattle.std.proofs.Common.{◌≡◌, ℕ, ◌<◌, inl, inr, arith}
 use Rattle.refusals.specs.Order.{FirstOf}
-use Rattle.refusals.specs.Numbers.{verdict_number}
-use Rattle.refusals.specs.Calls.{marker, marker_parameters, marker_order}
-use Rattle.refusals.specs.declared.Parameter.{Parameter}
-use Rattle.refusals.specs.declared.Verdict.{Verdict}
-use Rattle.refusals.specs.declared.Verdict.TheVariants as verdict
-use Rattle.refusals.specs.declared.MarkerRefusal.TheVariants as refusal
-use Rattle.marker.specs.declared.Tested.TheVariants.{Accepted, Refused}
-use Rattle.marker.specs.declared.Form.{Form}
-use Rattle.marker.specs.Place.{form_at, fewest_wrong}
-use Rattle.marker.specs.Outcome.{TestOutcome}
-use Rattle.refusals.proofs.Orders.{first_passes}
-use Rattle.refusals.proofs.Verdicts.{parameter_nonzero, parameter_not_nine, passed, stopped}
+use Rattle.refusals.specs.Calls.{marker_parameters}
 
 -- Where the parameters are accepted there are four octets.
-four_given : {t octets : ℕ} → FirstOf (marker_parameters t octets) 0 → octets ≡ 4
-four_given (inl due) = absurd (omega arith)
-four_given (inr (legal, inl due)) = absurd (omega arith)
-four_given {t} {octets} (inr (legal, inr (four, e))) =
+pub four_octets_given : {t octets : ℕ} → FirstOf (marker_parameters t octets) 0 → octets ≡ 4
+four_octets_given (inl due) = absurd (omega arith)
+four_octets_given (inr (legal, inl due)) = absurd (omega arith)
+four_octets_given {t} {octets} (inr (legal, inr (four, e))) =
     let above : (4 < octets → ⊥) = λ h. four (λ same. omega arith) in
     let below : (octets < 4 → ⊥) = λ h. four (λ same. omega arith) in
     omega arith
-
-module _ {t : ℕ} (octets : List ℕ) {v : Verdict} (first : FirstOf (marker_parameters t (length octets)) (verdict_number v)) where
-  pub refused_parameters : (p : Parameter) → v ≡ verdict.Refused p → TestOutcome t octets (Refused (refusal.Parameters p))
-  refused_parameters p e = record {
-    number = stopped _ (marker_parameters t (length octets)) v p e first;
-    value = λ h. absurd (⊎_elim (parameter_nonzero p) (parameter_not_nine p) h);
-    form = tt;
-  }
-
-  module _ (e : v ≡ verdict.Accepted) where
-    accepted : FirstOf (marker_parameters t (length octets)) 0
-    accepted = passed (marker_parameters t (length octets)) v e first
-
-    pub four_octets_given : length octets ≡ 4
-    four_octets_given = four_given accepted
-
-    -- The wrong bits decide the number.
-    decided : (n : ℕ) → FirstOf (marker t (fewest_wrong octets 0) ∷ []) n → FirstOf (marker_order t (length octets) (fewest_wrong octets 0)) n
-    decided n = first_passes (marker_parameters t (length octets)) n (omega arith, (omega arith, tt)) accepted
-
-    module _ {form : Form} {wrong : ℕ} (near : (form ≡ form_at octets 0) × (wrong ≡ fewest_wrong octets 0)) where
-      pub refused_wrong : t < wrong → TestOutcome t octets (Refused (refusal.WrongBits wrong))
-      refused_wrong over = record { number = decided 9 (inl (omega arith, refl)); value = λ h. near.1; form = tt }
-
-      pub accepted_wrong : wrong ≤ t → TestOutcome t octets (Accepted form wrong)
-      accepted_wrong fits = record { number = decided 0 (inr ((λ h. omega arith), refl)); value = λ h. near.1; form = near.0 }

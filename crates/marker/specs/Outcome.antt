@@ -1,40 +1,44 @@
 -- What the marker test and the search answer, for every input (document 01, "Marker, chains and search", "Refusal numbers and the order of checks";
 -- document 02, (v)).
-use Rattle.std.specs.Prelude.{◌≡◌, ℕ, ◌+◌, ◌-◌, ◌≤◌, ◌⊎◌, List, length}
+use Rattle.std.specs.Prelude.{◌≡◌, ℕ, ◌+◌, ◌-◌, ◌≤◌, ◌⊎◌, List, length, Result, Ok, Err, IfOk}
 use Rattle.refusals.specs.Order.{FirstOf}
 use Rattle.refusals.specs.Numbers.{parameter_number, marker_number, marker_value}
 use Rattle.refusals.specs.Calls.{marker_order, search_order}
+use Rattle.refusals.specs.declared.Parameter.{Parameter}
+use Rattle.refusals.specs.declared.MarkerRefusal.{MarkerRefusal}
 use Rattle.marker.specs.Place.{form_at, fewest_wrong, Place, Fits, NoneFits, remaining}
 use Rattle.marker.specs.declared.Form.{Form}
-use Rattle.marker.specs.declared.Tested.{Tested}
-use Rattle.marker.specs.declared.Tested.TheVariants as tested
+use Rattle.marker.specs.declared.Near.{Near}
 use Rattle.marker.specs.declared.Searched.{Searched}
-use Rattle.marker.specs.declared.Searched.TheVariants.{Found, Absent, Spent, Refused}
+use Rattle.marker.specs.declared.Searched.TheVariants.{Found, Absent, Spent}
 
--- The number of each answer, as document 01 gives it; 0 is accepted.
-abbrev pub tested_number : Tested → ℕ
-tested_number (tested.Accepted form wrong) = 0
-tested_number (tested.Refused r) = marker_number r
+abbrev pub TestAnswer : Type 0
+TestAnswer = Result Near MarkerRefusal
 
--- Found, absent and spent are answers of a search that was accepted.
-abbrev pub searched_number : Searched → ℕ
-searched_number (Found place form wrong looked) = 0
-searched_number (Absent looked) = 0
-searched_number (Spent place looked) = 0
-searched_number (Refused p) = parameter_number p
+abbrev pub SearchAnswer : Type 0
+SearchAnswer = Result Searched Parameter
+
+-- The number of each answer, as document 01 gives it; 0 is accepted. Found, absent and spent are answers of a search that was accepted.
+abbrev pub tested_number : TestAnswer → ℕ
+tested_number (Ok near) = 0
+tested_number (Err r) = marker_number r
+
+abbrev pub searched_number : SearchAnswer → ℕ
+searched_number (Ok seen) = 0
+searched_number (Err p) = parameter_number p
 
 -- The value of the test's answer is the wrong bits; a refusal for a parameter or a length has none, and its value is 0.
-abbrev pub tested_value : Tested → ℕ
-tested_value (tested.Accepted form wrong) = wrong
-tested_value (tested.Refused r) = marker_value r
+abbrev pub tested_value : TestAnswer → ℕ
+tested_value (Ok near) = near.wrong
+tested_value (Err r) = marker_value r
 
 -- An accepted test names the form that is there.
-abbrev pub NamesForm : List ℕ → Tested → Type 0
-NamesForm octets (tested.Accepted form wrong) = form ≡ form_at octets 0
-NamesForm octets (tested.Refused r) = Unit
+abbrev pub NamesForm : List ℕ → TestAnswer → Type 0
+NamesForm octets (Ok near) = near.form ≡ form_at octets 0
+NamesForm octets (Err r) = Unit
 
 -- The test checks in its order, and answers the fewest wrong bits: accepted, those of the form that it names; refused by 9, the fewer of two counts that are both too large.
-pub record TestOutcome (tolerance : ℕ) (octets : List ℕ) (answer : Tested) : Type 0 where
+pub record TestOutcome (tolerance : ℕ) (octets : List ℕ) (answer : TestAnswer) : Type 0 where
   pub number : FirstOf (marker_order tolerance (length octets) (fewest_wrong octets 0)) (tested_number answer)
   pub value : (tested_number answer ≡ 0) ⊎ (tested_number answer ≡ 9) → tested_value answer ≡ fewest_wrong octets 0
   pub form : NamesForm octets answer
@@ -63,14 +67,13 @@ pub record BudgetSpent (tolerance : ℕ) (stream : List ℕ) (start budget next 
   pub reached : next ≡ start + budget
   pub counted : looked ≡ budget
 
--- What the search has seen, by cases of an answer that is no refusal.
+-- What an accepted search has seen, by cases of its answer.
 abbrev pub Looked : ℕ → List ℕ → ℕ → ℕ → Searched → Type 0
 Looked tolerance stream start budget (Found place form wrong looked) = FoundFirst tolerance stream start budget place form wrong looked
 Looked tolerance stream start budget (Absent looked) = NoneLeft tolerance stream start budget looked
 Looked tolerance stream start budget (Spent next looked) = BudgetSpent tolerance stream start budget next looked
-Looked tolerance stream start budget (Refused p) = ⊥
 
 -- The search checks in its order, and then answers what it has seen.
-pub record SearchOutcome (tolerance : ℕ) (stream : List ℕ) (start budget : ℕ) (answer : Searched) : Type 0 where
+pub record SearchOutcome (tolerance : ℕ) (stream : List ℕ) (start budget : ℕ) (answer : SearchAnswer) : Type 0 where
   pub number : FirstOf (search_order tolerance (length stream) start) (searched_number answer)
-  pub looked : searched_number answer ≡ 0 → Looked tolerance stream start budget answer
+  pub looked : IfOk answer (Looked tolerance stream start budget)

@@ -1,10 +1,10 @@
 // The search by octets: the wrong bits of the eight places that begin in an octet are counted at once, one count in each octet of a number.
 ghost use Rattle.std.specs.Prelude.{◌≡◌, ◌+◌, ◌-◌, ◌*◌, ◌<◌, ◌≤◌, true, length};
 ghost use Rattle.marker.specs.Place.{NoneFits};
-ghost use Rattle.marker.specs.Working.{lanes, octet_adds, Filled, common_wrong, tops_apart, TopsTell};
+ghost use Rattle.marker.specs.Working.{lanes, common_wrong, tops_apart, TopsTell};
 
 use crate::Searched;
-use crate::table::{added, octet_table};
+use crate::table::OctetTable;
 use crate::walking::walk;
 
 // The lowest bit of each count.
@@ -14,11 +14,11 @@ const ONES: u64 = 0x0101010101010101;
 const TOPS: u64 = 0x8080808080808080;
 
 // The eight counts over the three octets that all eight places have whole.
-fn common_at(table: &[u64; 768], stream: &[u8], i: usize) -> u64
-    requires { (i + 4 < length stream.now) × Filled octet_adds 768 table.now 768 }
+fn common_at(table: &OctetTable, stream: &[u8], i: usize) -> u64
+    requires { (i + 4 < length stream.now) }
     ensures { result ≡ lanes 8 (common_wrong stream.now i) }
 {
-    added(table, 0, stream[i + 1]) + added(table, 1, stream[i + 2]) + added(table, 2, stream[i + 3])
+    table.added(0, stream[i + 1]) + table.added(1, stream[i + 2]) + table.added(2, stream[i + 3])
 }
 
 // A count above the tolerance has its top bit set in the one sum. One so large that the complement's, which is the rest of the 24 bits, is not above it
@@ -31,15 +31,15 @@ fn tops_apart(counts: u64, tolerance: u32) -> u64
     (counts + (127 - near) * ONES) ^ (counts + (104 + near) * ONES)
 }
 
-fn tops_at(table: &[u64; 768], tolerance: u32, stream: &[u8], i: usize) -> u64
-    requires { (tolerance ≤ 3) × (i + 4 < length stream.now) × Filled octet_adds 768 table.now 768 }
+fn tops_at(table: &OctetTable, tolerance: u32, stream: &[u8], i: usize) -> u64
+    requires { (tolerance ≤ 3) × (i + 4 < length stream.now) }
     ensures { TopsTell tolerance stream.now i result }
 {
     tops_apart(common_at(table, stream, i), tolerance)
 }
 
-fn none_of_four(table: &[u64; 768], tolerance: u32, stream: &[u8], i: usize) -> bool
-    requires { (tolerance ≤ 3) × (i + 7 < length stream.now) × Filled octet_adds 768 table.now 768 }
+fn none_of_four(table: &OctetTable, tolerance: u32, stream: &[u8], i: usize) -> bool
+    requires { (tolerance ≤ 3) × (i + 7 < length stream.now) }
     ensures { result ≡ true → NoneFits tolerance stream.now (8 * i) (8 * (i + 4)) }
 {
     let a = tops_at(table, tolerance, stream, i);
@@ -50,8 +50,8 @@ fn none_of_four(table: &[u64; 768], tolerance: u32, stream: &[u8], i: usize) -> 
 }
 
 // By fours: how far no place fits as the 24 bits tell.
-fn passed(table: &[u64; 768], tolerance: u32, stream: &[u8], first: usize, end: usize) -> usize
-    requires { (tolerance ≤ 3) × (first ≤ end) × (end + 4 ≤ length stream.now) × Filled octet_adds 768 table.now 768 }
+fn passed(table: &OctetTable, tolerance: u32, stream: &[u8], first: usize, end: usize) -> usize
+    requires { (tolerance ≤ 3) × (first ≤ end) × (end + 4 ≤ length stream.now) }
     ensures { (first ≤ result) × (result ≤ end) × NoneFits tolerance stream.now (8 * first) (8 * result) }
 {
     let mut i = first;
@@ -69,18 +69,15 @@ fn none_fits(tolerance: u32, stream: &[u8], first: usize, end: usize) -> bool
     requires { (tolerance ≤ 3) × (first ≤ end) × (end + 4 ≤ length stream.now) × (length stream.now ≤ 65536) }
     ensures { result ≡ true → NoneFits tolerance stream.now (8 * first) (8 * end) }
 {
-    match walk(
-        tolerance,
-        stream,
-        8 * (first as u64),
-        8 * ((end - first) as u64),
-    ) {
-        Searched::Spent {
-            place: _,
-            looked: _,
-        } => true,
-        _ => false,
-    }
+    matches!(
+        walk(
+            tolerance,
+            stream,
+            8 * (first as u64),
+            8 * ((end - first) as u64)
+        ),
+        Searched::Spent { .. }
+    )
 }
 
 fn next_of(i: usize, end: usize) -> usize
@@ -99,7 +96,7 @@ pub(crate) fn skipped(tolerance: u32, stream: &[u8], first: usize, end: usize) -
     requires { (tolerance ≤ 3) × (first ≤ end) × (end + 4 ≤ length stream.now) × (length stream.now ≤ 65536) }
     ensures { (first ≤ result) × (result ≤ end) × NoneFits tolerance stream.now (8 * first) (8 * result) }
 {
-    let table = octet_table();
+    let table = OctetTable::new();
     let mut i = first;
     while i < end {
         let near = passed(&table, tolerance, stream, i, end);

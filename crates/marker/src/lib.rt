@@ -8,26 +8,25 @@ mod testing;
 mod walking;
 mod window;
 
-use refusals::{MarkerRefusal, Parameter};
 pub use searching::search;
 pub use testing::test;
 
 // The marker's form: as it is, or with all bits inverted.
-#[derive(Clone, Copy)]
+#[derive(Clone, Copy, Debug, PartialEq, Eq)]
 pub enum Form {
     True,
     Complement,
 }
 
-// The marker test's answer; accepted, with the form and its wrong bits.
-#[derive(Clone, Copy)]
-pub enum Tested {
-    Accepted(Form, u32),
-    Refused(MarkerRefusal),
+// The form that octets are nearer to, and its wrong bits: what an accepted test answers.
+#[derive(Clone, Copy, Debug, PartialEq, Eq)]
+pub struct Near {
+    pub form: Form,
+    pub wrong: u32,
 }
 
-// The search's answer. Places are bit positions; `looked` is how many of them were looked at.
-#[derive(Clone, Copy)]
+// What an accepted search answers. Places are bit positions; `looked` is how many of them were looked at.
+#[derive(Clone, Copy, Debug, PartialEq, Eq)]
 pub enum Searched {
     Found {
         place: u64,
@@ -42,5 +41,4 @@ pub enum Searched {
         place: u64,
         looked: u64,
     },
-    Refused(Parameter),
 }

@@ -6,7 +6,7 @@ ghost use Rattle.marker.specs.Outcome.{Looked, SearchOutcome};
 use crate::Searched;
 use crate::lanes::skipped;
 use crate::walking::walk;
-use refusals::Verdict;
+use refusals::Parameter;
 
 // No stream has more places.
 const MOST: u64 = 524288;
@@ -60,7 +60,6 @@ fn walk_on(tolerance: u32, stream: &[u8], start: u64, budget: u64, before: u64) 
             place,
             looked: before + looked,
         },
-        Searched::Refused(p) => Searched::Refused(p),
     }
 }
 
@@ -86,12 +85,9 @@ fn look(tolerance: u32, stream: &[u8], start: u64, budget: u64) -> Searched
     near
 }
 
-pub fn search(tolerance: u32, stream: &[u8], start: u64, budget: u64) -> Searched
+pub fn search(tolerance: u32, stream: &[u8], start: u64, budget: u64) -> Result<Searched, Parameter>
     ensures { SearchOutcome tolerance stream.now start budget result }
 {
-    let checked = refusals::search_parameters(tolerance, stream.len(), start);
-    if let Verdict::Refused(p) = checked {
-        return Searched::Refused(p);
-    }
-    look(tolerance, stream, start, budget)
+    refusals::search_parameters(tolerance, stream.len(), start)?;
+    Ok(look(tolerance, stream, start, budget))
 }

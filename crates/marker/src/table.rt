@@ -1,9 +1,9 @@
 // What each octet adds to the eight counts of the places that begin in one octet, of the three octets behind it: a table, built from what half octets add.
-ghost use Rattle.std.specs.Prelude.{◌≡◌, ◌+◌, ◌*◌, ◌<◌};
+ghost use Rattle.std.specs.Prelude.{◌≡◌, ◌+◌, ◌*◌, ◌<◌, length};
 ghost use Rattle.marker.specs.Working.{half_adds, octet_adds, Filled};
 
 // What half octets add to the eight counts: sixteen values for each of the six halves of three octets, an octet's high half first.
-const HALVES: [u64; 96] = [
+static HALVES: [u64; 96] = [
     0x0202030202030202,
     0x0103020301020303,
     0x0101040103020103,
@@ -102,40 +102,47 @@ const HALVES: [u64; 96] = [
     0x0304040302010101,
 ];
 
-fn half_list() -> [u64; 96]
-    ensures { Filled half_adds 96 result 96 }
+fn halves() -> &'static [u64; 96]
+    ensures { Filled half_adds 96 result.now 96 }
 {
-    HALVES
+    &HALVES
 }
 
-// The sixteen octets with one high half; rows 16 k on are those of the k-th octet.
-fn fill_row(table: &mut [u64], halves: &[u64; 96], row: usize)
-    requires { (row < 48) × Filled half_adds 96 halves.now 96 × Filled octet_adds 768 table.old (16 * row) }
-    ensures { Filled octet_adds 768 table.new (16 * row + 16) }
+// What sixteen octets with one high half add; rows from 16 k on are of the k-th octet.
+fn fill_row(sums: &mut [u64], row: usize)
+    requires { (row < 48) × (length sums.old ≡ 16) }
+    ensures { Filled (λ low. octet_adds (16 * row + low)) 16 sums.new 16 }
 {
+    let halves = halves();
     let first = 32 * (row / 16);
     let high = halves[first + row % 16];
-    for low in 0..16 {
-        table[16 * row + low] = high + halves[first + 16 + low];
+    for (low, sum) in sums.iter_mut().enumerate() {
+        *sum = high + halves[first + 16 + low];
     }
 }
 
-// What octets add, 256 values for each of five. Built in each call: 768 constants would be stored one by one.
-pub(crate) fn octet_table() -> [u64; 768]
-    ensures { Filled octet_adds 768 result 768 }
-{
-    let halves = half_list();
-    let mut table = [0u64; 768];
-    for row in 0..48 {
-        fill_row(&mut table, &halves, row);
-    }
-    table
+// What octets add, 256 values for each of three: in one run of places, since a row and a place in it would be two steps to each sum.
+#[derive(Drop)]
+pub(crate) struct OctetTable {
+    sums: [u64; 768],
+    ghost filled: { Filled octet_adds 768 sums 768 },
 }
 
-// What one octet adds to the eight counts, the k-th of the three.
-pub(crate) fn added(table: &[u64; 768], k: usize, octet: u8) -> u64
-    requires { (k < 3) × Filled octet_adds 768 table.now 768 }
-    ensures { result ≡ octet_adds (256 * k + octet) }
-{
-    table[256 * k + octet as usize]
+impl OctetTable {
+    // Built in each call: 768 constants would be stored one by one.
+    pub(crate) fn new() -> OctetTable {
+        let mut sums = [0u64; 768];
+        for row in 0..48 {
+            fill_row(&mut sums[16 * row..16 * row + 16], row);
+        }
+        OctetTable { sums }
+    }
+
+    // What one octet adds to the eight counts, the k-th of the three.
+    pub(crate) fn added(&self, k: usize, octet: u8) -> u64
+        requires { k < 3 }
+        ensures { result ≡ octet_adds (256 * k + octet) }
+    {
+        self.sums[256 * k + octet as usize]
+    }
 }

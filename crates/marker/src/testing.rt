@@ -3,9 +3,9 @@ ghost use Rattle.std.specs.Prelude.{◌≡◌, length};
 ghost use Rattle.marker.specs.Place.{form_at, fewest_wrong};
 ghost use Rattle.marker.specs.Outcome.{TestOutcome};
 
-use crate::Tested;
-use crate::window::{Near, front_entered, nearer_form};
-use refusals::{MarkerRefusal, Verdict};
+use crate::Near;
+use crate::window::{front_entered, nearer_form};
+use refusals::MarkerRefusal;
 
 fn nearer_in(octets: &[u8]) -> Near
     requires { length octets.now ≡ 4 }
@@ -15,18 +15,13 @@ fn nearer_in(octets: &[u8]) -> Near
     nearer_form(front_entered(front_entered(half, octets[2], 8), octets[3], 8))
 }
 
-pub fn test(tolerance: u32, octets: &[u8]) -> Tested
+pub fn test(tolerance: u32, octets: &[u8]) -> Result<Near, MarkerRefusal>
     ensures { TestOutcome tolerance octets.now result }
 {
-    let checked = refusals::marker_parameters(tolerance, octets.len());
-    if let Verdict::Refused(p) = checked {
-        return Tested::Refused(MarkerRefusal::Parameters(p));
-    }
+    refusals::marker_parameters(tolerance, octets.len())?;
     let near = nearer_in(octets);
-    let form = near.form;
-    let wrong = near.wrong;
-    if wrong > tolerance {
-        return Tested::Refused(MarkerRefusal::WrongBits(wrong));
+    if near.wrong > tolerance {
+        return Err(MarkerRefusal::WrongBits(near.wrong));
     }
-    Tested::Accepted(form, wrong)
+    Ok(near)
 }

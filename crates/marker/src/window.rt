@@ -2,7 +2,7 @@
 ghost use Rattle.std.specs.Prelude.{◌≡◌, ◌+◌, ◌-◌, ◌*◌, ◌/◌, ◌%◌, ◌^◌, ◌<◌, ◌≤◌, bit_xor, count_ones, nat_le};
 ghost use Rattle.marker.specs.Place.{nearer, fewer};
 
-use crate::Form;
+use crate::{Form, Near};
 
 // Written as 1A CF FC 1D.
 const MARKER: u32 = 0x1ACFFC1D;
@@ -10,7 +10,7 @@ const MARKER: u32 = 0x1ACFFC1D;
 pub(crate) fn wrong_bits(window: u32) -> u32
     ensures { result ≡ count_ones (bit_xor window 0x1ACFFC1D) }
 {
-    u32::count_ones(window ^ MARKER)
+    (window ^ MARKER).count_ones()
 }
 
 // Whether either form is within the tolerance, by one test: a count up to the tolerance, less one more than it, wraps round to a large number, and so comes above those
@@ -19,14 +19,7 @@ pub(crate) fn is_near(window: u32, tolerance: u32) -> bool
     requires { tolerance ≤ 3 }
     ensures { result ≡ nat_le (fewer (count_ones (bit_xor window 0x1ACFFC1D)) (32 - count_ones (bit_xor window 0x1ACFFC1D))) tolerance }
 {
-    std::num::wrapping_sub_u32(wrong_bits(window), tolerance + 1) >= 31 - 2 * tolerance
-}
-
-// A form, with its wrong bits.
-#[derive(Clone, Copy)]
-pub(crate) struct Near {
-    pub form: Form,
-    pub wrong: u32,
+    wrong_bits(window).wrapping_sub(tolerance + 1) >= 31 - 2 * tolerance
 }
 
 // The form that the window is nearer to; one count serves both.

@@ -5,8 +5,7 @@ use Prim.Native.Nat.{ℕ}
 use native.Mathlib.Decide.{ℕ_discrete}
 use lib.ListN.{length}
 use Rattle.refusals.specs.Calls.{randomise_order}
-use Rattle.refusals.specs.Numbers.{verdict_number}
-use Rattle.refusals.specs.declared.Verdict.{Verdict}
+use Rattle.refusals.specs.Numbers.{Verdict, verdict_number}
 use Rattle.refusals.proofs.Settled.{verdict_settled}
 use Rattle.randomiser.specs.Outcome.{NextOutcome, RandomiseOutcome}
 

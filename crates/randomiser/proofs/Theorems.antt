@@ -10,8 +10,7 @@ use borrow.Author.Tests.{eq-eqb}
 use lib.Dec.{eqb}
 use lib.Bits.{bit_xor}
 use lib.ListN.{length, get_or}
-use Rattle.refusals.specs.Numbers.{verdict_number}
-use Rattle.refusals.specs.declared.Verdict.{Verdict}
+use Rattle.refusals.specs.Numbers.{Verdict, verdict_number}
 use Rattle.field.proofs.Below.{equal_below}
 use Rattle.field.proofs.Sum.{⊕_is}
 use Rattle.field.proofs.Changes.{changed_from, changed-length, changed-at, changed-twice, changed_alike}

@@ -1,9 +1,8 @@
 -- What the calls promise (document 01, "Randomiser").
 use Rattle.std.specs.Prelude.{◌≡◌, ◌≢◌, List, ℕ, length}
 use Rattle.refusals.specs.Order.{FirstOf}
-use Rattle.refusals.specs.Numbers.{verdict_number}
+use Rattle.refusals.specs.Numbers.{Verdict, verdict_number}
 use Rattle.refusals.specs.Calls.{randomise_order}
-use Rattle.refusals.specs.declared.Verdict.{Verdict}
 use Rattle.randomiser.specs.Sequence.{eight_on, randomised}
 
 -- A call on the register gives the eight bits that it held and leaves it eight bits on.

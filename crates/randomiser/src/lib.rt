@@ -5,4 +5,4 @@ mod blocks;
 mod sequence;
 
 pub use blocks::randomise;
-pub use sequence::{Register, next, next_bits};
+pub use sequence::{Register, next_bits};

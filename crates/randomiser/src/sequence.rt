@@ -4,7 +4,7 @@ ghost use Rattle.randomiser.specs.Sequence.{eight_on};
 ghost use Rattle.randomiser.specs.Outcome.{NextOutcome};
 
 // The next eight bits of the sequence, first in the top bit.
-#[derive(Clone, Copy)]
+#[derive(Clone, Copy, Debug, PartialEq, Eq)]
 pub struct Register {
     pub bits: u8,
 }
@@ -17,13 +17,15 @@ fn step(bits: u8) -> u8
     old ^ (old >> 1) ^ (old >> 2) ^ (old >> 4) ^ (old >> 5)
 }
 
-// The register's octet, and the register eight bits on.
-pub fn next(register: &mut Register) -> u8
-    ensures { NextOutcome register.old.bits result register.new.bits }
-{
-    let octet = register.bits;
-    register.bits = step(octet);
-    octet
+impl Register {
+    // The register's octet, and the register eight bits on.
+    pub fn next(&mut self) -> u8
+        ensures { NextOutcome self.old.bits result self.new.bits }
+    {
+        let octet = self.bits;
+        self.bits = step(octet);
+        octet
+    }
 }
 
 // The same on the number that a register holds, for a caller who has no struct to lend.
@@ -31,7 +33,7 @@ pub fn next_bits(bits: &mut u8) -> u8
     ensures { NextOutcome bits.old result bits.new }
 {
     let mut register = Register { bits: *bits };
-    let octet = next(&mut register);
+    let octet = register.next();
     *bits = register.bits;
     octet
 }

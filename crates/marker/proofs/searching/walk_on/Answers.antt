@@ -1,6 +1,6 @@
 -- `walk_on` answers what the walk behind the places passed answers, with these counted.
 use Rattle.std.proofs.Common.{arith}
-use Rattle.marker.proofs.Passing.{no_refusal, found_later, absent_later, spent_later}
+use Rattle.marker.proofs.Passing.{found_later, absent_later, spent_later}
 use Rattle.marker.proofs.searching.walk_on.Goals as goal
 
 pub overflow_add-result : goal.overflow_add-result
@@ -41,8 +41,3 @@ returns-in-Spent c =
     let a = c.args in
     let front = c.requires in
     spent_later a.tolerance a.stream.now front.3 front.4 front.5 _ c.in-Spent.is c.walk.ensures
-
-pub returns-in-Refused : goal.returns-in-Refused
-returns-in-Refused c =
-    let a = c.args in
-    no_refusal a.tolerance a.stream.now _ _ _ c.in-Refused.is c.walk.ensures

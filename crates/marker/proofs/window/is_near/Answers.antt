@@ -10,5 +10,5 @@ returns c =
     let window = c.args.window in
     let count = c.wrong_bits in
     rw (← count.ensures)
-    (near_wrapped count.result c.args.tolerance c.wrapping_sub_u32.result
-    (omega (arith, count.ensures, ones-le 32 _ (xor_lt 32 window 0x1ACFFC1D (omega arith) (omega arith)))) (omega arith) (omega arith) c.wrapping_sub_u32.ensures.value)
+    (near_wrapped count.result c.args.tolerance _
+    (omega (arith, count.ensures, ones-le 32 _ (xor_lt 32 window 0x1ACFFC1D (omega arith) (omega arith)))) (omega arith) (omega arith) (omega arith))

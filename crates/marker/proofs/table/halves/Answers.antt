@@ -1,8 +1,8 @@
--- `half_list` passes the test of each of its entries.
+-- `halves` lends the table of half octets, each of whose entries was tested.
 use Rattle.std.proofs.Common.{refl}
 use Rattle.field.proofs.Below.{equal_below}
 use Rattle.marker.specs.Working.{lanes, wrong_bit, wrong_of, half_adds}
-use Rattle.marker.proofs.table.half_list.Goals as goal
+use Rattle.marker.proofs.table.halves.Goals as goal
 
 pub returns : goal.returns
 unfolding lanes wrong_bit wrong_of half_adds
