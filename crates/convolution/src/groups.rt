@@ -2,8 +2,7 @@
 ghost use Rattle.std.specs.Prelude.{◌≡◌, ◌<◌};
 ghost use Rattle.refusals.specs.Order.{OneOf};
 ghost use Rattle.refusals.specs.Sizes.{rates};
-ghost use Rattle.convolution.specs.Coder.{g1, g2};
-ghost use Rattle.convolution.specs.GroupWorking.{SumsBy, moved_up, spread_by, symbols_by, Grouped};
+ghost use Rattle.convolution.specs.GroupWorking.{moved_up, spread_by, symbols_by, Grouped};
 
 use crate::Group;
 
@@ -70,19 +69,6 @@ pub(crate) fn group_of(rate: u32) -> Group
         };
     }
     longer_group(rate)
-}
-
-// As `sums_by_g1`, but of as many bits as the window has below the register.
-pub(crate) fn wide_by_g1(window: u64) -> u64
-    ensures { SumsBy g1 window result }
-{
-    window ^ (window / 2) ^ (window / 4) ^ (window / 8) ^ (window / 64)
-}
-
-pub(crate) fn wide_by_g2(window: u64) -> u64
-    ensures { SumsBy g2 window result }
-{
-    window ^ (window / 4) ^ (window / 8) ^ (window / 32) ^ (window / 64)
 }
 
 // The bits that the mask has go up by so many places.

@@ -116,7 +116,7 @@ pub fn close(rate: u32, state: State, symbols: &mut [u8]) -> Convolved
     if let Verdict::Refused(parameter) = checked {
         return Convolved::Refused(parameter);
     }
-    let holds = state.holds as usize;
+    let holds = usize::from(state.holds);
     if holds == 0 {
         return Convolved::Done(0);
     }

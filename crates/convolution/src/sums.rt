@@ -1,27 +1,27 @@
-// The sums of eight bits at once, over a window: the register with the octet below it. Added bit by bit, modulo 2, to itself moved down,
-// the window has at each of its eight lowest places the sum for the bit there.
-ghost use Rattle.std.specs.Prelude.{◌≡◌, ◌/◌, ◌%◌, ◌<◌};
-ghost use Rattle.convolution.specs.Coder.{low_bits, g1, g2};
-ghost use Rattle.convolution.specs.Working.{sums_of, all_inverted};
+// The sums of many bits at once, over a window: the register with the bits below it. Added bit by bit, modulo 2, to itself moved down,
+// the window has at the place of each bit the sum for that bit.
+ghost use Rattle.std.specs.Prelude.{◌≡◌, ◌^◌, ◌<◌};
+ghost use Rattle.convolution.specs.Coder.{low_bits};
+ghost use Rattle.convolution.specs.Working.{added, all_inverted};
 
-pub(crate) fn sums_by_g1(window: u32) -> u32
-    ensures { (low_bits 8 result ≡ sums_of g1 (window / 256 % 64) (low_bits 8 window)) × (result < 256) }
-{
-    (window ^ (window / 2) ^ (window / 4) ^ (window / 8) ^ (window / 64)) % 256
-}
+// A connection vector, by the places of its other bits behind the present one.
+pub(crate) struct Vector<const I: u32, const J: u32, const K: u32, const L: u32>;
 
-pub(crate) fn sums_by_g2(window: u32) -> u32
-    ensures { (low_bits 8 result ≡ sums_of g2 (window / 256 % 64) (low_bits 8 window)) × (result < 256) }
-{
-    (window ^ (window / 4) ^ (window / 8) ^ (window / 32) ^ (window / 64)) % 256
-}
+pub(crate) type G1 = Vector<1, 2, 3, 6>;
 
-pub(crate) fn inverted_at_half(rate: u32, sums: u32) -> u32
-    requires { sums < 256 }
-    ensures { (low_bits 8 result ≡ all_inverted rate (low_bits 8 sums)) × (result < 256) }
-{
-    if rate == 1 {
-        return 255 - sums;
+pub(crate) type G2 = Vector<2, 3, 5, 6>;
+
+impl<const I: u32, const J: u32, const K: u32, const L: u32> Vector<I, J, K, L> {
+    pub(crate) fn sums(window: u64) -> u64
+        requires { (I < 64) × (J < 64) × (K < 64) × (L < 64) }
+        ensures { result ≡ added (2 ^ I) (2 ^ J) (2 ^ K) (2 ^ L) window }
+    {
+        window ^ (window >> I) ^ (window >> J) ^ (window >> K) ^ (window >> L)
     }
-    sums
+}
+
+pub(crate) fn inverted_at_half(rate: u32, sums: u8) -> u8
+    ensures { low_bits 8 result ≡ all_inverted rate (low_bits 8 sums) }
+{
+    if rate == 1 { 255 - sums } else { sums }
 }
