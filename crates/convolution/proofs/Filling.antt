@@ -27,8 +27,9 @@ module _ (rate octet : ℕ) (s : Flow) (small : octet < 256) (six : s.register <
   register_on : window % 64 ≡ register_after s.register bits
   register_on = sym (register-at 8 window) ∙ ap₂ register_after above below
 
-  module _ (wide x y second : ℕ) (t : Flow)
+  module _ (wide last x y second : ℕ) (t : Flow)
       (is_window : wide ≡ window)
+      (is_last : last ≡ wide % 64)
       (by-g1 : x ≡ added 2 4 8 64 wide)
       (by-g2 : y ≡ added 4 8 32 64 wide)
       (turned : low_bits 8 second ≡ all_inverted rate (low_bits 8 (y % 256)))
@@ -47,13 +48,13 @@ module _ (rate octet : ℕ) (s : Flow) (small : octet < 256) (six : s.register <
         ap₂ (picked_from rate s.place) (first_are ∙ ap₂ (sums_of g1) above below) (turned ∙ ap (all_inverted rate) (plain_are ∙ ap₂ (sums_of g2) above below))
         ∙ sym (symbols_picked rate s.register s.place bits)
 
-    wide_on : wide % 64 ≡ register_after s.register bits
-    wide_on = ap (λ (n : ℕ). n % 64) is_window ∙ register_on
+    wide_on : last ≡ register_after s.register bits
+    wide_on = is_last ∙ ap (λ (n : ℕ). n % 64) is_window ∙ register_on
 
     place_on : t.place ≡ place_after rate s.place bits
     place_on = sent.place ∙ place_by_count 8 rate s.place first octet
 
-    pub octet_filled : Filled rate s octet (record { register = wide % 64; place = t.place; held = t.held; holds = t.holds })
+    pub octet_filled : Filled rate s octet (record { register = last; place = t.place; held = t.held; holds = t.holds })
     octet_filled =
         record {
           same = λ rest.
@@ -65,7 +66,7 @@ module _ (rate octet : ℕ) (s : Flow) (small : octet < 256) (six : s.register <
                 register = ap (λ (r : ℕ). register_after r rest) wide_on ∙ sym (register-append s.register bits rest);
                 place = ap (λ (p : ℕ). place_after rate p rest) place_on ∙ sym (place-append rate s.place bits rest);
               };
-          register = mod-lt wide (omega arith);
+          register = omega (arith, is_last);
           place = sent.small;
           holds = sent.holds;
         }

@@ -104,18 +104,18 @@ module _ (start : Flow) (octets : List ℕ) (sound : Sound 1 start) (none : star
   pairs_room n h = omega (arith, length-to_send)
 
   pub all_paired : (register : ℕ) (symbols : List ℕ) → register < 64 → register ≡ register_after start.register (bits_of octets) → Paired start.register octets (length octets) symbols
-      → Run 1 start (bits_of octets) (record { register = register; place = 0; held = 0; holds = 0 }) symbols
+      → Run 1 start (bits_of octets) (record { register = register; place = start.place; held = start.held; holds = start.holds }) symbols
   all_paired register symbols six e paired =
       let all : take (length octets) octets ≡ octets = take-length octets in
       let first : start.place ≡ 0 = omega (arith, sound.place) in
       record {
         same =
-            append-nil _
-            ∙ ap (λ (n : ℕ). bits_of (take n symbols)) length-to_send
+            ap₂ (λ (n m : ℕ). bits_of (take n symbols) ++ low_bits m start.held) length-to_send none
+            ∙ append-nil _
             ∙ paired
             ∙ ap (λ (l : List ℕ). symbols_from 1 start.register 0 (bits_of l)) all
             ∙ sym to_send_lem;
         register = e;
-        place = sym (place_stays (bits_of octets)) ∙ ap (λ (p : ℕ). place_after 1 p (bits_of octets)) (sym first);
-        sound = record { register = six; place = omega arith; held = omega arith; holds = omega arith };
+        place = first ∙ sym (place_stays (bits_of octets)) ∙ ap (λ (p : ℕ). place_after 1 p (bits_of octets)) (sym first);
+        sound = record { register = six; place = sound.place; held = sound.held; holds = sound.holds };
       }

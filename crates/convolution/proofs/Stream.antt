@@ -44,6 +44,36 @@ octet_written symbols at held left more v h el ev =
     ∙ append_assoc (bits_of (take at symbols)) (low_bits 8 (held / 2 ^ more)) (low_bits more held)
     ∙ ap (λ (l : List ℕ). bits_of (take at symbols) ++ l) (sym back)
 
+-- So none, one or two of them.
+module _ (before : List ℕ) (at held holds : ℕ) where
+  pub ready_none : holds < 8 → Ready before at held holds before
+  ready_none h =
+      let n : at + holds / 8 ≡ at = omega arith in
+      let m : holds % 8 ≡ holds = omega arith in
+      record { long = refl; same = ap₂ (λ (x y : ℕ). bits_of (take x before) ++ low_bits y held) n m }
+
+  pub ready_one : (v : ℕ) → 8 ≤ holds → holds < 16 → at < length before → v ≡ held / 2 ^ (holds - 8) % 256 → Ready before at held holds (set before at v)
+  ready_one v low high fits e =
+      let n : at + holds / 8 ≡ at + 1 = omega arith in
+      let m : holds % 8 ≡ holds - 8 = omega arith in
+      record {
+        long = length-set before at v;
+        same = ap₂ (λ (x y : ℕ). bits_of (take x (set before at v)) ++ low_bits y held) n m ∙ octet_written before at held holds (holds - 8) v fits (omega arith) e;
+      }
+
+  pub ready_two : (v w : ℕ) → 16 ≤ holds → holds < 24 → at + 1 < length before → v ≡ held / 2 ^ (holds - 8) % 256 → w ≡ held / 2 ^ (holds - 16) % 256 → Ready before at held holds (set (set before at v) (at + 1) w)
+  ready_two v w low high fits e f =
+      let n : at + holds / 8 ≡ at + 1 + 1 = omega arith in
+      let m : holds % 8 ≡ holds - 16 = omega arith in
+      let long = length-set before at v in
+      record {
+        long = length-set (set before at v) (at + 1) w ∙ long;
+        same =
+            ap₂ (λ (x y : ℕ). bits_of (take x (set (set before at v) (at + 1) w)) ++ low_bits y held) n m
+            ∙ octet_written (set before at v) (at + 1) held (holds - 8) (holds - 16) w (omega arith) (omega arith) f
+            ∙ octet_written before at held holds (holds - 8) v (omega arith) (omega arith) e;
+      }
+
 -- The last n of the eight octets of a number, the highest first, have its 8 n lowest bits.
 byte_worth : (k : ℕ) → 256 ^ k ≡ 2 ^ (8 * k)
 byte_worth zero = refl

@@ -1,13 +1,12 @@
-// Rate 1/2 with nothing held: each octet gives two, by its own bits and the six before them. No turn waits for what the turn before it
-// worked out, so that the compiler makes many of them at once.
-ghost use Rattle.std.specs.Prelude.{◌≡◌, ◌+◌, ◌*◌, ◌≤◌, ◌<◌, length};
+// Rate 1/2: each octet gives two, in a loop without a choice in each turn, as its octets are too quick for one.
+ghost use Rattle.std.specs.Prelude.{◌≡◌, ◌+◌, ◌*◌, ◌/◌, ◌≤◌, ◌<◌, length};
 ghost use Rattle.convolution.specs.Coder.{bits_of};
-ghost use Rattle.convolution.specs.Working.{Sound, Run};
+ghost use Rattle.convolution.specs.Working.{stream, Sound, Run};
 ghost use Rattle.convolution.specs.GroupWorking.{PairPut};
 
 use crate::Flow;
-use crate::patterns::Pattern;
-use crate::writing::write_ready;
+use crate::octet::half_in;
+use crate::writing::{kept, write_ready};
 
 // The two octets of an octet that comes after a register, the first at `at`.
 fn put_pair(symbols: &mut [u8], at: usize, register: u32, octet: u8)
@@ -20,23 +19,39 @@ fn put_pair(symbols: &mut [u8], at: usize, register: u32, octet: u8)
         held: 0,
         holds: 0,
     };
-    let full = Pattern::of(1).octet_in(alone, octet);
+    let full = half_in(alone, octet);
     write_ready(symbols, at, full.held, full.holds);
 }
 
+// With nothing held. The register before an octet is the last six bits of the octet before it: no turn waits for what the turn before it worked
+// out, so that the compiler makes many of them at once.
 pub(crate) fn pairs_in(octets: &[u8], symbols: &mut [u8], start: Flow) -> Flow
     requires { Sound 1 start × (start.holds ≡ 0) × (2 * length octets.now ≤ length symbols.old) }
     ensures { Run 1 start (bits_of octets.now) result symbols.new }
 {
-    let mut register = start.register;
+    let mut before = start.register as u8;
     for (i, octet) in octets.iter().enumerate() {
-        put_pair(symbols, 2 * i, register, *octet);
-        register = u32::from(*octet % 64);
+        put_pair(symbols, 2 * i, u32::from(before % 64), *octet);
+        before = *octet;
     }
     Flow {
-        register,
-        place: 0,
-        held: 0,
-        holds: 0,
+        register: u32::from(before % 64),
+        ..start
     }
+}
+
+// With symbols held, which go out first.
+pub(crate) fn behind_held_in(octets: &[u8], symbols: &mut [u8], start: Flow) -> Flow
+    requires { Sound 1 start × (length (stream 1 start (bits_of octets.now)) / 8 ≤ length symbols.old) }
+    ensures { Run 1 start (bits_of octets.now) result symbols.new }
+{
+    let mut flow = start;
+    let mut written = 0;
+    for octet in octets {
+        let full = half_in(flow, *octet);
+        write_ready(symbols, written, full.held, full.holds);
+        written += full.holds / 8;
+        flow = kept(full);
+    }
+    flow
 }

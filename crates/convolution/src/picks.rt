@@ -15,16 +15,15 @@ fn spread(octet: u8) -> u32
     (twos | (twos << 1)) & 0x5555
 }
 
-// C1 and C2 of each bit in turn.
-fn pairs(state: Flow, first: u8, second: u8) -> Flow
+// At rate 1/2 C1 and C2 of each bit in turn.
+pub(crate) fn pairs(state: Flow, first: u8, second: u8) -> Flow
     requires { (state.place < 1) × (state.held < 128) × (state.holds < 8) }
     ensures { Sent 1 state first second result }
 {
     Flow {
-        register: state.register,
-        place: state.place,
         held: state.held * 65536 + (spread(first) * 2 + spread(second)),
         holds: state.holds + 16,
+        ..state
     }
 }
 
@@ -68,7 +67,8 @@ fn to_period(place: usize, period: usize) -> usize
 }
 
 impl Pattern {
-    fn punctured(&self, state: Flow, first: u8, second: u8) -> Flow
+    // At every other rate what its pattern names.
+    pub(crate) fn punctured(&self, state: Flow, first: u8, second: u8) -> Flow
         requires { (state.place < self.now.period) × (state.holds < 8) }
         ensures { Sent self.now.rate state first second result }
     {
@@ -89,15 +89,5 @@ impl Pattern {
             held: joined(s.held, both, s.left),
             holds: s.holds + s.left,
         }
-    }
-
-    pub(crate) fn picked(&self, state: Flow, first: u8, second: u8) -> Flow
-        requires { (state.place < self.now.period) × (state.held < 128) × (state.holds < 8) }
-        ensures { Sent self.now.rate state first second result }
-    {
-        if self.rate == 1 {
-            return pairs(state, first, second);
-        }
-        self.punctured(state, first, second)
     }
 }

@@ -6,7 +6,7 @@ ghost use Rattle.convolution.specs.Coder.{bits_of};
 ghost use Rattle.convolution.specs.Working.{stream, Sound, Opened, Handed, Run, Accepted};
 
 use crate::groups::group_of;
-use crate::pairs::pairs_in;
+use crate::pairs::{behind_held_in, pairs_in};
 use crate::patterns::Pattern;
 use crate::writing::{last_octet, top_bits};
 use crate::{Convolved, Flow, Progress, Ran, State};
@@ -53,7 +53,6 @@ fn groups_in(pattern: &Pattern, octets: &[u8], symbols: &mut [u8], start: Flow) 
     at.flow
 }
 
-// Rate 1/2 has a loop of its own: its octets are too quick for a choice in each turn.
 fn all_in(pattern: &Pattern, octets: &[u8], symbols: &mut [u8], start: Flow) -> Flow
     requires { Sound pattern.now.rate start × (length (stream pattern.now.rate start (bits_of octets.now)) / 8 ≤ length symbols.old) }
     ensures { Run pattern.now.rate start (bits_of octets.now) result symbols.new }
@@ -64,15 +63,7 @@ fn all_in(pattern: &Pattern, octets: &[u8], symbols: &mut [u8], start: Flow) -> 
     if start.holds == 0 {
         return pairs_in(octets, symbols, start);
     }
-    let mut at = Progress {
-        flow: start,
-        read: 0,
-        written: 0,
-    };
-    while at.read < octets.len() {
-        at = pattern.one_in(octets, symbols, at);
-    }
-    at.flow
+    behind_held_in(octets, symbols, start)
 }
 
 // The symbols that came in, of those written and those held before and after.

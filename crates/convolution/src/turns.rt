@@ -45,8 +45,8 @@ fn group_in(rate: u32, group: Group, octets: &[u8], symbols: &mut [u8], at: Prog
 }
 
 impl Pattern {
-    pub(crate) fn one_in(&self, octets: &[u8], symbols: &mut [u8], at: Progress) -> Progress
-        requires { Underway self.now.rate octets.now symbols.old at × (at.read < length octets.now) }
+    fn one_in(&self, octets: &[u8], symbols: &mut [u8], at: Progress) -> Progress
+        requires { Underway self.now.rate octets.now symbols.old at × (at.read < length octets.now) × (self.now.rate ≡ 1 → ⊥) }
         ensures { Turned self.now.rate octets.now symbols.old at symbols.new result }
     {
         let full = self.octet_in(at.flow, octets[at.read]);

@@ -19,9 +19,14 @@ pub(crate) fn write_ready(symbols: &mut [u8], at: usize, held: u32, holds: usize
     requires { (holds ≤ 23) × (at + holds / 8 ≤ length symbols.old) }
     ensures { Ready symbols.old at held holds symbols.new }
 {
-    for k in 0..holds / 8 {
-        symbols[at + k] = octet_above(u64::from(held), holds - 8 - 8 * k);
+    if holds < 8 {
+        return;
     }
+    symbols[at] = octet_above(u64::from(held), holds - 8);
+    if holds < 16 {
+        return;
+    }
+    symbols[at + 1] = octet_above(u64::from(held), holds - 16);
 }
 
 // The lowest octets of a number, the first at `at`.
