@@ -29,15 +29,12 @@ pub(crate) fn pairs_in(octets: &[u8], symbols: &mut [u8], start: Flow) -> Flow
     requires { Sound 1 start × (start.holds ≡ 0) × (2 * length octets.now ≤ length symbols.old) }
     ensures { Run 1 start (bits_of octets.now) result symbols.new }
 {
-    let mut before = start.register as u8;
-    for (i, octet) in octets.iter().enumerate() {
-        put_pair(symbols, 2 * i, u32::from(before % 64), *octet);
-        before = *octet;
+    let mut register = start.register;
+    for (i, &octet) in octets.iter().enumerate() {
+        put_pair(symbols, 2 * i, register, octet);
+        register = u32::from(octet % 64);
     }
-    Flow {
-        register: u32::from(before % 64),
-        ..start
-    }
+    Flow { register, ..start }
 }
 
 // With symbols held, which go out first.
@@ -47,8 +44,8 @@ pub(crate) fn behind_held_in(octets: &[u8], symbols: &mut [u8], start: Flow) -> 
 {
     let mut flow = start;
     let mut written = 0;
-    for octet in octets {
-        let full = half_in(flow, *octet);
+    for &octet in octets {
+        let full = half_in(flow, octet);
         write_ready(symbols, written, full.held, full.holds);
         written += full.holds / 8;
         flow = kept(full);

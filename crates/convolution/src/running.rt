@@ -5,11 +5,10 @@ ghost use Rattle.refusals.specs.Calls.{convolve_order};
 ghost use Rattle.convolution.specs.Coder.{bits_of};
 ghost use Rattle.convolution.specs.Working.{stream, Sound, Opened, Handed, Run, Accepted};
 
-use crate::groups::group_of;
 use crate::pairs::{behind_held_in, pairs_in};
 use crate::patterns::Pattern;
 use crate::writing::{last_octet, top_bits};
-use crate::{Convolved, Flow, Progress, Ran, State};
+use crate::{Convolved, Flow, Group, Progress, Ran, State};
 
 fn opened(state: State) -> Flow
     requires { state.holds < 8 }
@@ -41,7 +40,7 @@ fn groups_in(pattern: &Pattern, octets: &[u8], symbols: &mut [u8], start: Flow) 
     requires { Sound pattern.now.rate start × (length (stream pattern.now.rate start (bits_of octets.now)) / 8 ≤ length symbols.old) × (pattern.now.rate ≡ 1 → ⊥) }
     ensures { Run pattern.now.rate start (bits_of octets.now) result symbols.new }
 {
-    let group = group_of(pattern.rate);
+    let group = Group::of(pattern.rate);
     let mut at = Progress {
         flow: start,
         read: 0,

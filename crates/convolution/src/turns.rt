@@ -3,7 +3,6 @@ ghost use Rattle.std.specs.Prelude.{◌≡◌, ◌+◌, ◌*◌, ◌/◌, ◌^�
 ghost use Rattle.convolution.specs.Coder.{low_bits, bits_of};
 ghost use Rattle.convolution.specs.GroupWorking.{Grouped, Underway, Turned};
 
-use crate::groups::group_symbols;
 use crate::patterns::Pattern;
 use crate::sums::{G1, G2};
 use crate::writing::{behind_held, kept, write_group, write_ready};
@@ -21,14 +20,14 @@ fn window_of(register: u32, octets: &[u8]) -> u64
     window
 }
 
-fn group_in(rate: u32, group: Group, octets: &[u8], symbols: &mut [u8], at: Progress) -> Progress
-    requires { Grouped rate group × Underway rate octets.now symbols.old at × (at.flow.place ≡ 0) × (at.read + group.octets ≤ length octets.now) }
+fn group_in(rate: u32, group: &Group, octets: &[u8], symbols: &mut [u8], at: Progress) -> Progress
+    requires { Grouped rate group.now × Underway rate octets.now symbols.old at × (at.flow.place ≡ 0) × (at.read + group.now.octets ≤ length octets.now) }
     ensures { Turned rate octets.now symbols.old at symbols.new result }
 {
     let flow = at.flow;
     let read = at.read + group.octets;
     let window = window_of(flow.register, &octets[at.read..read]);
-    let sent = group_symbols(group, G1::sums(window), G2::sums(window));
+    let sent = group.symbols(G1::sums(window), G2::sums(window));
     let out = behind_held(flow.held, flow.holds, sent, 8 * group.filled);
     write_group(symbols, at.written, out, group.filled);
     let next = Flow {
@@ -58,8 +57,8 @@ impl Pattern {
         }
     }
 
-    pub(crate) fn turn(&self, group: Group, octets: &[u8], symbols: &mut [u8], at: Progress) -> Progress
-        requires { Grouped self.now.rate group × Underway self.now.rate octets.now symbols.old at × (at.read < length octets.now) }
+    pub(crate) fn turn(&self, group: &Group, octets: &[u8], symbols: &mut [u8], at: Progress) -> Progress
+        requires { Grouped self.now.rate group.now × Underway self.now.rate octets.now symbols.old at × (at.read < length octets.now) }
         ensures { Turned self.now.rate octets.now symbols.old at symbols.new result }
     {
         let flow = at.flow;

@@ -5,8 +5,8 @@ use Rattle.refusals.proofs.Legal.{first-five}
 use Rattle.convolution.proofs.Turning.{going_first, going_underway, going_on, going_over}
 use Rattle.convolution.proofs.running.groups_in.Goals as goal
 
-pub group_of-group-requires : goal.group_of-group-requires
-group_of-group-requires c = (first-five [] c.args.pattern.now.rate (omega (arith, c.args.pattern.now.rows.some)) c.args.pattern.now.rows.five, c.requires.2)
+pub of-group-requires : goal.of-group-requires
+of-group-requires c = (first-five [] c.args.pattern.now.rate (omega (arith, c.args.pattern.now.rows.some)) c.args.pattern.now.rows.five, c.requires.2)
 
 pub loop-at-init : goal.loop-at-init
 loop-at-init c =
@@ -16,7 +16,7 @@ pub turn-at-requires : goal.turn-at-requires
 turn-at-requires c =
     let at = c.loop-at in
     let under = going_underway c.args.pattern.now.rate c.args.octets.now c.args.symbols.now c.args.start at.symbols at.at at.invariant c.requires.1 in
-    (c.group_of-group.ensures, under, c.loop-at-test.true)
+    (c.of-group.ensures, under, c.loop-at-test.true)
 
 pub loop-at-smaller : goal.loop-at-smaller
 loop-at-smaller c = omega (arith, c.turn-at.ensures.further, c.loop-at-test.true)
