@@ -6,12 +6,11 @@ use Prim.Native.Nat.{ℕ}
 use lib.ListN.{get_or}
 use Rattle.refusals.specs.Order.{Check, FirstOf, OneOf, Tells}
 use Rattle.refusals.specs.Sizes.{strengths}
-use Rattle.refusals.specs.Numbers.{parameter_number, verdict_number, marker_number}
+use Rattle.refusals.specs.Numbers.{parameter_number, verdict_number, Verdict, marker_number}
 use Rattle.refusals.specs.Calls.{encode_order, portion_order, close_order, decode_parameters, salvage_order, randomise_order, convolve_order, coder_close_order, likeliest_order, marker_parameters, search_order, transmit_order, receive_parameters}
 use Rattle.refusals.specs.declared.Parameter.{Parameter}
 use Rattle.refusals.specs.declared.Parameter.TheVariants.{Strength, Depth, Fill, Allowance, Input, Output, Rate, Tolerance, Start, Progress}
-use Rattle.refusals.specs.declared.Verdict.{Verdict}
-use Rattle.refusals.specs.declared.Verdict.TheVariants.{Accepted, Refused}
+use Rattle.std.specs.Prelude.{Ok, Err}
 use Rattle.refusals.specs.declared.MarkerRefusal.{MarkerRefusal}
 use Rattle.refusals.proofs.Orders.{first_unique}
 
@@ -19,28 +18,28 @@ use Rattle.refusals.proofs.Orders.{first_unique}
 
 by_number : List Verdict
 by_number =
-    Accepted ∷ Refused Strength ∷ Refused Depth ∷ Refused Fill ∷ Refused Allowance ∷ Refused Input ∷ Refused Output ∷ Refused Rate ∷ Refused Tolerance
-    ∷ Accepted ∷ Accepted ∷ Refused Start ∷ Accepted ∷ Accepted ∷ Refused Progress ∷ []
+    (Ok tt) ∷ Err Strength ∷ Err Depth ∷ Err Fill ∷ Err Allowance ∷ Err Input ∷ Err Output ∷ Err Rate ∷ Err Tolerance
+    ∷ (Ok tt) ∷ (Ok tt) ∷ Err Start ∷ (Ok tt) ∷ (Ok tt) ∷ Err Progress ∷ []
 
-found : (v : Verdict) → get_or by_number (verdict_number v) Accepted ≡ v
+found : (v : Verdict) → get_or by_number (verdict_number v) (Ok tt) ≡ v
 unfolding by_number
-found Accepted = refl
-found (Refused Strength) = refl
-found (Refused Depth) = refl
-found (Refused Fill) = refl
-found (Refused Allowance) = refl
-found (Refused Input) = refl
-found (Refused Output) = refl
-found (Refused Rate) = refl
-found (Refused Tolerance) = refl
-found (Refused Start) = refl
-found (Refused Progress) = refl
+found (Ok done) = refl
+found (Err Strength) = refl
+found (Err Depth) = refl
+found (Err Fill) = refl
+found (Err Allowance) = refl
+found (Err Input) = refl
+found (Err Output) = refl
+found (Err Rate) = refl
+found (Err Tolerance) = refl
+found (Err Start) = refl
+found (Err Progress) = refl
 
 pub verdict_known : (v w : Verdict) → verdict_number v ≡ verdict_number w → v ≡ w
-verdict_known v w e = sym (found v) ∙ ap (λ (n : ℕ). get_or by_number n Accepted) e ∙ found w
+verdict_known v w e = sym (found v) ∙ ap (λ (n : ℕ). get_or by_number n (Ok tt)) e ∙ found w
 
 pub parameter_known : (p q : Parameter) → parameter_number p ≡ parameter_number q → p ≡ q
-parameter_known p q e = let same : Refused p ≡ Refused q = verdict_known (Refused p) (Refused q) e in cc
+parameter_known p q e = let same : Err p ≡ Err q = verdict_known (Err p) (Err q) e in cc
 
 pub verdict_settled : (order : List Check) (v w : Verdict) → FirstOf order (verdict_number v) → FirstOf order (verdict_number w) → v ≡ w
 verdict_settled order v w p q = verdict_known v w (first_unique order (verdict_number v) (verdict_number w) p q)

@@ -7,13 +7,11 @@ use Prim.Native.Nat.{ℕ, ◌<◌}
 use native.Mathlib.Omega.{arith}
 use Rattle.refusals.specs.Order.{Check, FirstOf, Tells}
 use Rattle.refusals.specs.Sizes.{frame_length, block_length}
-use Rattle.refusals.specs.Numbers.{parameter_number, verdict_number}
+use Rattle.refusals.specs.Numbers.{parameter_number}
 use Rattle.refusals.specs.Calls.{decode_parameters, allowance, input, output}
 use Rattle.refusals.specs.Working.{word_parameters, allowed_parameters, coder_parameters}
 use Rattle.refusals.specs.declared.Parameter.{Parameter}
 use Rattle.refusals.specs.declared.Parameter.TheVariants.{Strength, Depth, Fill, Allowance, Input, Output, Rate, Tolerance, Start, Progress}
-use Rattle.refusals.specs.declared.Verdict.{Verdict}
-use Rattle.refusals.specs.declared.Verdict.TheVariants.{Accepted, Refused}
 use Rattle.refusals.proofs.Legal.{word_numbers, allowed_numbers, decode_numbers, coder_numbers}
 use Rattle.refusals.proofs.Orders.{Begins, first_stops, first_passes, first_accepts}
 
@@ -39,15 +37,9 @@ parameter_not_nine p z = ⊎_elim (λ low. omega arith) (λ last. omega arith) (
 pub parameter_not_ten : (p : Parameter) → parameter_number p ≢ 10
 parameter_not_ten p z = ⊎_elim (λ low. omega arith) (λ last. omega arith) (parameter_number_lem p)
 
-pub same_verdict : (order : List Check) (v w : Verdict) → v ≡ w → FirstOf order (verdict_number v) → FirstOf order (verdict_number w)
-same_verdict order v w e f = subst (λ (x : Verdict). FirstOf order (verdict_number x)) e f
-
-pub passed : (order : List Check) (v : Verdict) → v ≡ Accepted → FirstOf order (verdict_number v) → FirstOf order 0
-passed order v e f = same_verdict order v Accepted e f
-
-pub stopped : (rest : Type 0) (front : List Check) (v : Verdict) (p : Parameter) → v ≡ Refused p → FirstOf front (verdict_number v) → Begins front (parameter_number p) rest
-stopped rest front v p e f =
-    first_stops rest front (parameter_number p) (same_verdict front v (Refused p) e f) (parameter_nonzero p)
+-- A refusal that the first checks gave is the whole call's.
+pub stopped : (rest : Type 0) (front : List Check) (p : Parameter) → FirstOf front (parameter_number p) → Begins front (parameter_number p) rest
+stopped rest front p f = first_stops rest front (parameter_number p) f (parameter_nonzero p)
 
 -- Checks 1, 2 and 3 passed: what comes after them decides.
 pub after_words : {rest : Type 0} (e i q n : ℕ) → FirstOf (word_parameters e i q) 0 → rest → Begins (word_parameters e i q) n rest

@@ -1,9 +1,7 @@
 -- The number of each refusal and the value that it carries (document 01, "Refusal numbers and the order of checks"; document 02, (ii)).
-use Rattle.std.specs.Prelude.{ℕ}
+use Rattle.std.specs.Prelude.{⊤, ℕ, Result, Ok, Err}
 use Rattle.refusals.specs.declared.Parameter.{Parameter}
 use Rattle.refusals.specs.declared.Parameter.TheVariants.{Strength, Depth, Fill, Allowance, Input, Output, Rate, Tolerance, Start, Progress}
-use Rattle.refusals.specs.declared.Verdict.{Verdict}
-use Rattle.refusals.specs.declared.Verdict.TheVariants.{Accepted, Refused}
 use Rattle.refusals.specs.declared.MarkerRefusal.{MarkerRefusal}
 use Rattle.refusals.specs.declared.MarkerRefusal.TheVariants as marker
 use Rattle.refusals.specs.declared.WordRefusal.{WordRefusal}
@@ -21,9 +19,13 @@ parameter_number Tolerance = 8
 parameter_number Start = 11
 parameter_number Progress = 14
 
+-- The answer of a call that is refused for a parameter or a length only; 0 is accepted.
+abbrev pub Verdict : Type 0
+Verdict = Result ⊤ Parameter
+
 abbrev pub verdict_number : Verdict → ℕ
-verdict_number Accepted = 0
-verdict_number (Refused p) = parameter_number p
+verdict_number (Ok done) = 0
+verdict_number (Err p) = parameter_number p
 
 -- Refusal 9 carries the wrong bits, refusal 10 the word; the others carry nothing.
 abbrev pub marker_number : MarkerRefusal → ℕ

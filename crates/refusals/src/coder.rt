@@ -6,18 +6,12 @@ ghost use Rattle.refusals.specs.Numbers.{verdict_number};
 ghost use Rattle.refusals.specs.Calls.{convolve_order, coder_close_order};
 ghost use Rattle.refusals.specs.Working.{coder_parameters};
 
-use crate::{Parameter, Verdict};
+use crate::Parameter;
 
 fn rate_legal(rate: u32) -> bool
     ensures { Tells result (OneOf rates rate) }
 {
-    if rate == 0 {
-        return false;
-    }
-    if rate <= 5 {
-        return true;
-    }
-    false
+    matches!(rate, 1 | 2 | 3 | 4 | 5)
 }
 
 fn period_of(rate: u32) -> u8
@@ -34,22 +28,22 @@ fn period_of(rate: u32) -> u8
 }
 
 // Check 7 in its four forms, with which both calls begin.
-fn coder_parameters(rate: u32, register: u8, place: u8, holds: u8) -> Verdict
+fn coder_parameters(rate: u32, register: u8, place: u8, holds: u8) -> Result<(), Parameter>
     ensures { FirstOf (coder_parameters rate register place holds) (verdict_number result) }
 {
     if !rate_legal(rate) {
-        return Verdict::Refused(Parameter::Rate);
+        return Err(Parameter::Rate);
     }
     if register > 63 {
-        return Verdict::Refused(Parameter::Rate);
+        return Err(Parameter::Rate);
     }
     if place >= period_of(rate) {
-        return Verdict::Refused(Parameter::Rate);
+        return Err(Parameter::Rate);
     }
     if holds > 7 {
-        return Verdict::Refused(Parameter::Rate);
+        return Err(Parameter::Rate);
     }
-    Verdict::Accepted
+    Ok(())
 }
 
 // One symbol for each bit, and one more for each period that begins.
@@ -59,13 +53,8 @@ fn symbols_of(rate: u32, place: u8, octets: usize) -> usize
 {
     let start = place as usize;
     let bits = 8 * octets;
-    match rate {
-        1 => bits + bits,
-        2 => bits + ((start + bits + 1) / 2 - (start + 1) / 2),
-        3 => bits + ((start + bits + 2) / 3 - (start + 2) / 3),
-        4 => bits + ((start + bits + 4) / 5 - (start + 4) / 5),
-        _ => bits + ((start + bits + 6) / 7 - (start + 6) / 7),
-    }
+    let period = period_of(rate) as usize;
+    bits + ((start + bits).div_ceil(period) - start.div_ceil(period))
 }
 
 pub fn convolve_parameters(
@@ -75,20 +64,17 @@ pub fn convolve_parameters(
     holds: u8,
     octets: usize,
     symbols: usize,
-) -> Verdict
+) -> Result<(), Parameter>
     ensures { FirstOf (convolve_order rate register place holds octets symbols) (verdict_number result) }
 {
-    let coder = coder_parameters(rate, register, place, holds);
-    if let Verdict::Refused(p) = coder {
-        return Verdict::Refused(p);
-    }
+    coder_parameters(rate, register, place, holds)?;
     if octets > 2044 {
-        return Verdict::Refused(Parameter::Input);
+        return Err(Parameter::Input);
     }
     if symbols != (holds as usize + symbols_of(rate, place, octets)) / 8 {
-        return Verdict::Refused(Parameter::Output);
+        return Err(Parameter::Output);
     }
-    Verdict::Accepted
+    Ok(())
 }
 
 pub fn coder_close_parameters(
@@ -97,15 +83,12 @@ pub fn coder_close_parameters(
     place: u8,
     holds: u8,
     symbols: usize,
-) -> Verdict
+) -> Result<(), Parameter>
     ensures { FirstOf (coder_close_order rate register place holds symbols) (verdict_number result) }
 {
-    let coder = coder_parameters(rate, register, place, holds);
-    if let Verdict::Refused(p) = coder {
-        return Verdict::Refused(p);
-    }
+    coder_parameters(rate, register, place, holds)?;
     if symbols != (holds as usize + 7) / 8 {
-        return Verdict::Refused(Parameter::Output);
+        return Err(Parameter::Output);
     }
-    Verdict::Accepted
+    Ok(())
 }

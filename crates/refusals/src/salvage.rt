@@ -3,27 +3,22 @@ ghost use Rattle.refusals.specs.Order.{FirstOf};
 ghost use Rattle.refusals.specs.Numbers.{verdict_number};
 ghost use Rattle.refusals.specs.Calls.{salvage_order};
 
-use crate::checks::{block_length, decode_parameters};
-use crate::{Parameter, Verdict};
+use crate::checks::decode_parameters;
+use crate::{Code, Parameter};
 
 // The list has room for every octet of the block, since every octet may change.
 pub fn salvage_parameters(
-    e: u32,
-    depth: u32,
-    fill: u32,
+    code: Code,
     s: u32,
     block: usize,
     frame: usize,
     list: usize,
-) -> Verdict
-    ensures { FirstOf (salvage_order e depth fill s block frame list) (verdict_number result) }
+) -> Result<(), Parameter>
+    ensures { FirstOf (salvage_order code.strength code.depth code.fill s block frame list) (verdict_number result) }
 {
-    let decoded = decode_parameters(e, depth, fill, s, block, frame);
-    if let Verdict::Refused(p) = decoded {
-        return Verdict::Refused(p);
+    decode_parameters(code, s, block, frame)?;
+    if list != 4 * code.block_length() {
+        return Err(Parameter::Output);
     }
-    if list != 4 * block_length(e, depth, fill) {
-        return Verdict::Refused(Parameter::Output);
-    }
-    Verdict::Accepted
+    Ok(())
 }

@@ -13,6 +13,6 @@ pub returns : goal.returns
 returns c =
     subst
     (λ (required : ℕ).
-    FirstOf (strength c.args.e ∷ depth c.args.depth ∷ fill c.args.e c.args.fill ∷ input c.args.frame (frame_length c.args.e c.args.depth c.args.fill) ∷ output c.args.block required ∷ [])
+    FirstOf (strength c.args.code.strength ∷ depth c.args.code.depth ∷ fill c.args.code.strength c.args.code.fill ∷ input c.args.frame (frame_length c.args.code.strength c.args.code.depth c.args.code.fill) ∷ output c.args.block required ∷ [])
     (verdict_number c.outgoing.result))
-    (add-zero (block_length c.args.depth c.args.fill)) c.outgoing.ensures
+    (add-zero (block_length c.args.code.depth c.args.code.fill)) c.outgoing.ensures
