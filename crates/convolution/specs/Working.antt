@@ -5,8 +5,6 @@ use Rattle.refusals.specs.Sizes.{period}
 use Rattle.convolution.specs.declared.State.{State}
 use Rattle.convolution.specs.declared.Flow.{Flow}
 use Rattle.convolution.specs.declared.Picking.{Picking}
-use Rattle.convolution.specs.declared.Ran.{Ran}
-use Rattle.convolution.specs.declared.Convolved.TheVariants.{Done}
 use Rattle.convolution.specs.Coder.{low_bits, bits_of, connected, c1_patterns, c2_patterns, pattern_at, sent, inverted, next_register, next_place, symbols_from, register_after, place_after, first_octet, filled}
 use Rattle.convolution.specs.Outcome.{held_of, symbols_of, to_send, state_after}
 
@@ -134,8 +132,8 @@ pub record Handed (s : Flow) (r : State) : Type 0 where
   pub holds : r.holds ≡ s.holds
   pub held : r.held ≡ first_octet (low_bits s.holds s.held)
 
--- What an accepted call answers and leaves.
-pub record Accepted (rate : ℕ) (s : State) (octets : List ℕ) (r : Ran) (after : List ℕ) : Type 0 where
-  pub count : r.answer ≡ Done (length (symbols_of rate s octets))
-  pub state : r.state ≡ state_after rate s octets
+-- What an accepted call counts and leaves.
+pub record Accepted (rate : ℕ) (s : State) (octets : List ℕ) (n : ℕ) (next : State) (after : List ℕ) : Type 0 where
+  pub count : n ≡ length (symbols_of rate s octets)
+  pub state : next ≡ state_after rate s octets
   pub symbols : after ≡ filled (to_send rate s octets)

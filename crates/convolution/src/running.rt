@@ -8,7 +8,7 @@ ghost use Rattle.convolution.specs.Working.{stream, Sound, Opened, Handed, Run, 
 use crate::pairs::{behind_held_in, pairs_in};
 use crate::patterns::Pattern;
 use crate::writing::{last_octet, top_bits};
-use crate::{Convolved, Flow, Group, Progress, Ran, State};
+use crate::{Flow, Group, Progress, State};
 
 fn opened(state: State) -> Flow
     requires { state.holds < 8 }
@@ -73,16 +73,12 @@ fn own_symbols(written: usize, before: usize, after: usize) -> u32
     (8 * written + after - before) as u32
 }
 
-pub(crate) fn run_on(rate: u32, state: State, octets: &[u8], symbols: &mut [u8]) -> Ran
-    requires { FirstOf (convolve_order rate state.register state.place state.holds (length octets.now) (length symbols.old)) 0 }
-    ensures { Accepted rate state octets.now result symbols.new }
+pub(crate) fn run_on(rate: u32, state: &mut State, octets: &[u8], symbols: &mut [u8]) -> u32
+    requires { FirstOf (convolve_order rate state.old.register state.old.place state.old.holds (length octets.now) (length symbols.old)) 0 }
+    ensures { Accepted rate state.old octets.now result state.new symbols.new }
 {
-    let start = opened(state);
+    let start = opened(*state);
     let end = all_in(&Pattern::of(rate), octets, symbols, start);
-    let count = own_symbols(symbols.len(), start.holds, end.holds);
-    let next = handed(end);
-    Ran {
-        answer: Convolved::Done(count),
-        state: next,
-    }
+    *state = handed(end);
+    own_symbols(symbols.len(), start.holds, end.holds)
 }

@@ -12,38 +12,38 @@ use Rattle.convolution.proofs.running.run_on.Goals as goal
 use Rattle.convolution.proofs.running.run_on.Goals.{After-all_in-end}
 
 pub of-requires : goal.of-requires
-of-requires c = (known c.args.rate c.args.state c.args.octets.now c.args.symbols.now c.requires).coder.rate
+of-requires c = (known c.args.rate c.args.state.now c.args.octets.now c.args.symbols.now c.requires).coder.rate
 
 pub opened-start-requires : goal.opened-start-requires
-opened-start-requires c = (known c.args.rate c.args.state c.args.octets.now c.args.symbols.now c.requires).coder.holds
+opened-start-requires c = (known c.args.rate c.args.state.now c.args.octets.now c.args.symbols.now c.requires).coder.holds
 
 pub all_in-end-requires : goal.all_in-end-requires
 all_in-end-requires c =
     let first = c.opened-start in
     subst (λ (r : ℕ). Sound r first.result × (length (stream r first.result (bits_of c.args.octets.now)) / 8 ≤ length c.args.symbols.now)) (sym c.of.ensures) (
-      start_sound c.args.rate c.args.state c.args.octets.now c.args.symbols.now c.requires first.result first.ensures,
-      room_for_stream c.args.rate c.args.state c.args.octets.now c.args.symbols.now c.requires first.result first.ensures,
+      start_sound c.args.rate c.args.state.now c.args.octets.now c.args.symbols.now c.requires first.result first.ensures,
+      room_for_stream c.args.rate c.args.state.now c.args.octets.now c.args.symbols.now c.requires first.result first.ensures,
     )
 
 -- What `all_in` ensures, at the rate that was given.
 ran : (c : After-all_in-end) → Run c.args.rate c.opened-start.result (bits_of c.args.octets.now) c.all_in-end.result c.all_in-end.new.symbols
 ran c = subst (λ (r : ℕ). Run r c.opened-start.result (bits_of c.args.octets.now) c.all_in-end.result c.all_in-end.new.symbols) c.of.ensures c.all_in-end.ensures
 
-pub own_symbols-count-requires : goal.own_symbols-count-requires
-own_symbols-count-requires c =
+pub own_symbols-requires : goal.own_symbols-requires
+own_symbols-requires c =
     let first = c.opened-start in
     let run = c.all_in-end in
-    let few = not_long c.args.rate c.args.state c.args.octets.now c.args.symbols.now c.requires in
-    let most = enough c.args.rate c.args.state c.args.octets.now c.args.symbols.now c.requires first.result first.ensures run.result run.new.symbols (ran (goal.at.own_symbols-count-requires c).After-all_in-end) run.auto.symbols (octets_known run.new.symbols (λ k h. omega (arith, c.type_inv.symbols k))) in
+    let few = not_long c.args.rate c.args.state.now c.args.octets.now c.args.symbols.now c.requires in
+    let most = enough c.args.rate c.args.state.now c.args.octets.now c.args.symbols.now c.requires first.result first.ensures run.result run.new.symbols (ran (goal.at.own_symbols-requires c).After-all_in-end) run.auto.symbols (octets_known run.new.symbols (λ k h. omega (arith, c.type_inv.symbols k))) in
     (omega (arith, run.auto.symbols), run.ensures.sound.holds, omega (arith, run.auto.symbols))
 
-pub handed-next-requires : goal.handed-next-requires
-handed-next-requires c =
-    let sound = (ran (goal.at.handed-next-requires c).After-all_in-end).sound in
-    (sound.register, omega (arith, sound.place, period_most c.args.rate (known c.args.rate c.args.state c.args.octets.now c.args.symbols.now c.requires).coder.rate), sound.held, sound.holds)
+pub handed-requires : goal.handed-requires
+handed-requires c =
+    let sound = (ran (goal.at.handed-requires c).After-all_in-end).sound in
+    (sound.register, omega (arith, sound.place, period_most c.args.rate (known c.args.rate c.args.state.now c.args.octets.now c.args.symbols.now c.requires).coder.rate), sound.held, sound.holds)
 
 pub returns : goal.returns
 returns c =
     let first = c.opened-start in
     let run = c.all_in-end in
-    accepted c.args.rate c.args.state c.args.octets.now c.args.symbols.now c.requires first.result first.ensures run.result run.new.symbols (ran (goal.at.returns c).After-all_in-end) run.auto.symbols (octets_known run.new.symbols (λ k h. omega (arith, c.type_inv.symbols k))) c.handed-next.result c.own_symbols-count.result c.handed-next.ensures (omega (arith, c.own_symbols-count.ensures, run.auto.symbols))
+    accepted c.args.rate c.args.state.now c.args.octets.now c.args.symbols.now c.requires first.result first.ensures run.result run.new.symbols (ran (goal.at.returns c).After-all_in-end) run.auto.symbols (octets_known run.new.symbols (λ k h. omega (arith, c.type_inv.symbols k))) c.handed.result c.own_symbols.result c.handed.ensures (omega (arith, c.own_symbols.ensures, run.auto.symbols))
