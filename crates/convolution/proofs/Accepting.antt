@@ -10,7 +10,6 @@ use Rattle.refusals.specs.Sizes.{symbol_count}
 use Rattle.refusals.specs.Calls.{convolve_order}
 use Rattle.convolution.specs.declared.State.{State}
 use Rattle.convolution.specs.declared.Flow.{Flow}
-use Rattle.convolution.specs.declared.Convolved.TheVariants.{Done}
 use Rattle.convolution.specs.Coder.{low_bits, bits_of, symbols_from, register_after, place_after, first_octet}
 use Rattle.convolution.specs.Outcome.{held_of, symbols_of, to_send, state_after}
 use Rattle.convolution.specs.Working.{stream, Sound, Opened, Handed, Run, Accepted}
@@ -80,11 +79,11 @@ module _ (rate : ℕ) (s : State) (octets before : List ℕ) (none_due : FirstOf
       pub enough : AreOctets after → start.holds ≤ 8 * length before + end.holds
       enough small = omega (arith, opened.holds, numbers small)
 
-      pub accepted : AreOctets after → (next : State) (n : ℕ) → Handed end next → n ≡ 8 * length before + end.holds - start.holds → Accepted rate s octets (record { answer = Done n; state = next }) after
+      pub accepted : AreOctets after → (next : State) (n : ℕ) → Handed end next → n ≡ 8 * length before + end.holds - start.holds → Accepted rate s octets n next after
       accepted small next n handed e =
           let left = cut_left _ _ _ (cut small) in
           record {
-            count = ap Done (omega (arith, e, opened.holds, numbers small));
+            count = omega (arith, e, opened.holds, numbers small);
             state =
                 same_state next (state_after rate s octets)
                 (handed.register ∙ run.register ∙ ap (λ (r : ℕ). register_after r (bits_of octets)) opened.register)

@@ -8,14 +8,12 @@ use lib.Bits.{bit_xor, xor_shr, xor_mod}
 use lib.Arith.{mod-mul, digits_div, digits_mod}
 use Rattle.field.proofs.Below.{equal_below}
 use Rattle.convolution.specs.Coder.{low_bits, g1, g2, ones, connected, inverted, register_after, place_after, next_register, next_place, symbols_at, symbols_from}
-use Rattle.convolution.specs.Working.{sums_of, all_inverted, picked_from}
+use Rattle.convolution.specs.Working.{added, sums_of, all_inverted, picked_from}
+use Rattle.convolution.specs.GroupWorking.{SumsBy}
 use Rattle.convolution.proofs.Bits.{low_first, low_mod, halved}
 use Rattle.convolution.proofs.Stream.{at_punctured}
 
 -- ---- a window added to itself, moved down four times
-
-abbrev pub added : ℕ → ℕ → ℕ → ℕ → ℕ → ℕ
-added i j k l w = bit_xor (bit_xor (bit_xor (bit_xor w (w / i)) (w / j)) (w / k)) (w / l)
 
 swapped : (w d m : ℕ) → w / d / 2 ^ m ≡ w / 2 ^ m / d
 swapped w d m = div-div-eq-div-mul w d (2 ^ m) ∙ ap (λ (n : ℕ). w / n) (mul_comm d (2 ^ m)) ∙ sym (div-div-eq-div-mul w (2 ^ m) d)
@@ -103,11 +101,18 @@ module _ (i j k l : ℕ) (vector : List ℕ) (adds : Adds (added i j k l) vector
       ∙ ap₂ ◌∷◌ first (sums_at_once n w ∙ ap (λ (r : ℕ). sums_of vector r (low_bits n w)) (sym (next-register u)))
       ∙ sym (ap₂ (sums_of vector) (ap (λ (x : ℕ). x % 64) half) (low_first n w))
 
-pub sums-g1 : (w : ℕ) → low_bits 8 (added 2 4 8 64 w % 256) ≡ sums_of g1 (w / 256 % 64) (low_bits 8 w)
-sums-g1 w = low_mod 8 8 (added 2 4 8 64 w) (omega arith) ∙ sums_at_once 2 4 8 64 g1 by-g1 8 w
+pub all-g1 : (w x : ℕ) → x ≡ added 2 4 8 64 w → SumsBy g1 w x
+all-g1 w x e n = ap (low_bits n) e ∙ sums_at_once 2 4 8 64 g1 by-g1 n w
 
-pub sums-g2 : (w : ℕ) → low_bits 8 (added 4 8 32 64 w % 256) ≡ sums_of g2 (w / 256 % 64) (low_bits 8 w)
-sums-g2 w = low_mod 8 8 (added 4 8 32 64 w) (omega arith) ∙ sums_at_once 4 8 32 64 g2 by-g2 8 w
+pub all-g2 : (w x : ℕ) → x ≡ added 4 8 32 64 w → SumsBy g2 w x
+all-g2 w x e n = ap (low_bits n) e ∙ sums_at_once 4 8 32 64 g2 by-g2 n w
+
+-- So with the eight lowest.
+pub sums-g1 : (w x : ℕ) → x ≡ added 2 4 8 64 w → low_bits 8 (x % 256) ≡ sums_of g1 (w / 256 % 64) (low_bits 8 w)
+sums-g1 w x e = low_mod 8 8 x (omega arith) ∙ all-g1 w x e 8
+
+pub sums-g2 : (w x : ℕ) → x ≡ added 4 8 32 64 w → low_bits 8 (x % 256) ≡ sums_of g2 (w / 256 % 64) (low_bits 8 w)
+sums-g2 w x e = low_mod 8 8 x (omega arith) ∙ all-g2 w x e 8
 
 -- ---- C2 inverted
 

@@ -8,10 +8,8 @@ use Rattle.refusals.specs.Order.{FirstOf, OneOf}
 use Rattle.refusals.specs.Sizes.{period, rates}
 use Rattle.refusals.specs.Calls.{coder_close_order}
 use Rattle.convolution.specs.declared.State.{State}
-use Rattle.convolution.specs.declared.Ran.{Ran}
-use Rattle.convolution.specs.declared.Convolved.{Convolved}
 use Rattle.convolution.specs.Coder.{low_bits, bits_of, symbols_from, register_after, place_after, first_octet, packed, filled, left}
-use Rattle.convolution.specs.Outcome.{convolved_number, convolved_count, zero_state, held_of, symbols_of, to_send, state_after, ConvolveOutcome, CloseOutcome}
+use Rattle.convolution.specs.Outcome.{Convolved, convolved_number, convolved_count, zero_state, held_of, symbols_of, to_send, state_after, ConvolveOutcome, CloseOutcome}
 use Rattle.convolution.proofs.Bits.{bits-append}
 use Rattle.convolution.proofs.Symbols.{symbols-append, register-append, place-append}
 use Rattle.convolution.proofs.Count.{symbol_count_anew}
@@ -71,11 +69,11 @@ module _ (rate : ℕ) where
 -- One call or more, each accepted and from the state that the one before it left: their joined input, the octets that they wrote, the symbols that
 -- they reported, and the last state.
 pub data Calls (rate : ℕ) (s : State) : List ℕ → List ℕ → ℕ → State → Type 0 where
-  one : (octets before : List ℕ) (r : Ran) (after : List ℕ) → ConvolveOutcome rate s octets before r after → convolved_number r.answer ≡ 0 →
-      Calls rate s octets after (convolved_count r.answer) r.state
-  more : {input written : List ℕ} {count : ℕ} {t : State} (octets before : List ℕ) (r : Ran) (after : List ℕ) → Calls rate s input written count t →
-      ConvolveOutcome rate t octets before r after → convolved_number r.answer ≡ 0 →
-      Calls rate s (input ++ octets) (written ++ after) (count + convolved_count r.answer) r.state
+  one : (octets before : List ℕ) (answer : Convolved) (next : State) (after : List ℕ) → ConvolveOutcome rate s octets before answer next after → convolved_number answer ≡ 0 →
+      Calls rate s octets after (convolved_count answer) next
+  more : {input written : List ℕ} {count : ℕ} {t : State} (octets before : List ℕ) (answer : Convolved) (next : State) (after : List ℕ) → Calls rate s input written count t →
+      ConvolveOutcome rate t octets before answer next after → convolved_number answer ≡ 0 →
+      Calls rate s (input ++ octets) (written ++ after) (count + convolved_count answer) next
 
 -- What the definition gives for an input from a state on: the octets filled, the number of symbols, and the state.
 pub record Given (rate : ℕ) (s : State) (input written : List ℕ) (n : ℕ) (t : State) : Type 0 where
@@ -92,22 +90,22 @@ given_more rate s first second w1 w2 n1 n2 t u p q =
       state = q'.state ∙ state_joined rate s first second;
     }
 
-one_given : (rate : ℕ) (s : State) (octets before : List ℕ) (r : Ran) (after : List ℕ) → ConvolveOutcome rate s octets before r after → convolved_number r.answer ≡ 0 → Given rate s octets after (convolved_count r.answer) r.state
-one_given rate s octets before r after o none = record { symbols = o.symbols none; count = o.count none; state = o.state none }
+one_given : (rate : ℕ) (s : State) (octets before : List ℕ) (answer : Convolved) (next : State) (after : List ℕ) → ConvolveOutcome rate s octets before answer next after → convolved_number answer ≡ 0 → Given rate s octets after (convolved_count answer) next
+one_given rate s octets before answer u after o none = record { symbols = o.symbols none; count = o.count none; state = o.state none }
 
 pub calls_joined : (rate : ℕ) (s : State) (input written : List ℕ) (count : ℕ) (t : State) → Calls rate s input written count t → Given rate s input written count t
-calls_joined rate s input written count t (one octets before r after o none) = one_given rate s octets before r after o none
-calls_joined rate s input written count t (more octets before r after calls o none) =
-    given_more rate s _ octets _ after _ (convolved_count r.answer) _ r.state (calls_joined rate s _ _ _ _ calls) (one_given rate _ octets before r after o none)
+calls_joined rate s input written count t (one octets before answer u after o none) = one_given rate s octets before answer u after o none
+calls_joined rate s input written count t (more octets before answer u after calls o none) =
+    given_more rate s _ octets _ after _ (convolved_count answer) _ u (calls_joined rate s _ _ _ _ calls) (one_given rate _ octets before answer u after o none)
 
-pub two_calls_joined : (rate : ℕ) (s : State) (first second before before' after after' : List ℕ) (r t : Ran) →
-    ConvolveOutcome rate s first before r after →
-    convolved_number r.answer ≡ 0 →
-    ConvolveOutcome rate r.state second before' t after' →
-    convolved_number t.answer ≡ 0 →
-    Given rate s (first ++ second) (after ++ after') (convolved_count r.answer + convolved_count t.answer) t.state
-two_calls_joined rate s first second before before' after after' r t p e q f =
-    calls_joined rate s _ _ _ _ (more second before' t after' (one first before r after p e) q f)
+pub two_calls_joined : (rate : ℕ) (s : State) (first second before before' after after' : List ℕ) (answer answer' : Convolved) (next next' : State) →
+    ConvolveOutcome rate s first before answer next after →
+    convolved_number answer ≡ 0 →
+    ConvolveOutcome rate next second before' answer' next' after' →
+    convolved_number answer' ≡ 0 →
+    Given rate s (first ++ second) (after ++ after') (convolved_count answer + convolved_count answer') next'
+two_calls_joined rate s first second before before' after after' answer answer' t u p e q f =
+    calls_joined rate s _ _ _ _ (more second before' answer' u after' (one first before answer t after p e) q f)
 
 -- ---- the close
 

@@ -11,11 +11,9 @@ use Rattle.refusals.specs.Calls.{convolve_order, coder_close_order}
 use Rattle.refusals.proofs.Orders.{first_unique, clear_accepted}
 use Rattle.refusals.proofs.Legal.{LegalCoder}
 use Rattle.convolution.specs.declared.State.{State}
-use Rattle.convolution.specs.declared.Ran.{Ran}
-use Rattle.convolution.specs.declared.Convolved.{Convolved}
-use Rattle.convolution.specs.declared.Convolved.TheVariants.{Done}
+use Rattle.std.specs.Prelude.{Ok}
 use Rattle.convolution.specs.Coder.{bits_of, next_place, place_after, packed, filled}
-use Rattle.convolution.specs.Outcome.{convolved_number, zero_state, held_of, symbols_of, to_send, state_after, ConvolveOutcome, CloseOutcome}
+use Rattle.convolution.specs.Outcome.{Convolved, convolved_number, zero_state, held_of, symbols_of, to_send, state_after, ConvolveOutcome, CloseOutcome}
 use Rattle.convolution.proofs.Symbols.{register_small}
 use Rattle.convolution.proofs.Count.{symbol_count_lem, regular}
 use Rattle.convolution.proofs.Outcomes.{legal}
@@ -50,9 +48,9 @@ module _ (rate : ℕ) (s : State) (legal : LegalState rate s) where
       clear_accepted (closing_order before)
       (λ n. n legal.rate, (λ h. omega (arith, legal.register), (λ h. omega (arith, legal.place), (λ h. omega (arith, legal.holds), (λ n. n room, tt)))))
 
-  pub call_accepted : (octets before : List ℕ) (r : Ran) (after : List ℕ) → ConvolveOutcome rate s octets before r after
-      → length octets ≤ 2044 → length before ≡ length (to_send rate s octets) / 8 → convolved_number r.answer ≡ 0
-  call_accepted octets before r after o few room = first_unique (call_order octets before) _ 0 o.number (none_due octets before few room)
+  pub call_accepted : (octets before : List ℕ) (answer : Convolved) (next : State) (after : List ℕ) → ConvolveOutcome rate s octets before answer next after
+      → length octets ≤ 2044 → length before ≡ length (to_send rate s octets) / 8 → convolved_number answer ≡ 0
+  call_accepted octets before answer next after o few room = first_unique (call_order octets before) _ 0 o.number (none_due octets before few room)
 
   pub close_accepted : (before : List ℕ) (answer : Convolved) (after : List ℕ) → CloseOutcome rate s before answer after
       → length before ≡ octets_for s.holds → convolved_number answer ≡ 0
@@ -60,7 +58,7 @@ module _ (rate : ℕ) (s : State) (legal : LegalState rate s) where
 
   -- And there is such an outcome.
   pub call_permitted : (octets before : List ℕ) → length octets ≤ 2044 → length before ≡ length (to_send rate s octets) / 8
-      → ConvolveOutcome rate s octets before (record { answer = Done (length (symbols_of rate s octets)); state = state_after rate s octets }) (filled (to_send rate s octets))
+      → ConvolveOutcome rate s octets before (Ok (length (symbols_of rate s octets))) (state_after rate s octets) (filled (to_send rate s octets))
   call_permitted octets before few room =
       record {
         number = none_due octets before few room;
@@ -70,7 +68,7 @@ module _ (rate : ℕ) (s : State) (legal : LegalState rate s) where
         state = λ z. refl;
       }
 
-  pub close_permitted : (before : List ℕ) → length before ≡ octets_for s.holds → CloseOutcome rate s before (Done s.holds) (packed (held_of s))
+  pub close_permitted : (before : List ℕ) → length before ≡ octets_for s.holds → CloseOutcome rate s before (Ok s.holds) (packed (held_of s))
   close_permitted before room =
       record { number = close_none_due before room; refused = λ n. absurd (n refl); count = λ z. refl; symbols = λ z. refl }
 

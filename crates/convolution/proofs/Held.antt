@@ -7,18 +7,16 @@ use Rattle.refusals.specs.Order.{Check, FirstOf}
 use Rattle.refusals.specs.Calls.{convolve_order, coder_close_order}
 use Rattle.refusals.proofs.Orders.{first_unique}
 use Rattle.convolution.specs.declared.State.{State}
-use Rattle.convolution.specs.declared.Ran.{Ran}
-use Rattle.convolution.specs.declared.Convolved.{Convolved}
 use Rattle.convolution.specs.Coder.{bits_of, symbols_from, register_after, place_after, first_octet, packed, filled, left}
-use Rattle.convolution.specs.Outcome.{convolved_number, held_of, symbols_of, to_send, state_after, ConvolveOutcome, CloseOutcome}
+use Rattle.convolution.specs.Outcome.{Convolved, convolved_number, held_of, symbols_of, to_send, state_after, ConvolveOutcome, CloseOutcome}
 use Rattle.convolution.proofs.Packing.{bits_dropped, zeros-below}
 use Rattle.convolution.proofs.Settled.{convolved_known, either_way}
 use Rattle.convolution.proofs.Accepting.{same_state}
 use Rattle.convolution.proofs.Calls.{send_bits, whole_cut}
 
-pub zeros_on_return : (rate : ℕ) (s : State) (octets before : List ℕ) (r : Ran) (after : List ℕ) → ConvolveOutcome rate s octets before r after →
-    convolved_number r.answer ≡ 0 → r.state.held % 2 ^ (8 - r.state.holds) ≡ 0
-zeros_on_return rate s octets before r after o none =
+pub zeros_on_return : (rate : ℕ) (s : State) (octets before : List ℕ) (answer : Convolved) (next : State) (after : List ℕ) → ConvolveOutcome rate s octets before answer next after →
+    convolved_number answer ≡ 0 → next.held % 2 ^ (8 - next.holds) ≡ 0
+zeros_on_return rate s octets before answer next after o none =
     let send = to_send rate s octets in
     subst (λ (t : State). t.held % 2 ^ (8 - t.holds) ≡ 0) (sym (o.state none))
     (zeros-below (left send) (bits_dropped (8 * (length send / 8)) send (send_bits rate s octets)) (whole_cut rate s octets).few)
@@ -47,14 +45,14 @@ module _ (rate : ℕ) (s t : State) (alike : SameHeld s t) (before after after' 
       (ap first_octet rest)
 
   -- A call answers and writes the same from both, and if it is accepted it leaves the same state.
-  pub dirt_ignored : (octets : List ℕ) (r u : Ran) → ConvolveOutcome rate s octets before r after → ConvolveOutcome rate t octets before u after' →
-      (r.answer ≡ u.answer) × (after ≡ after') × (convolved_number r.answer ≡ 0 → r.state ≡ u.state)
-  dirt_ignored octets r u p q =
+  pub dirt_ignored : (octets : List ℕ) (a b : Convolved) (next next' : State) → ConvolveOutcome rate s octets before a next after → ConvolveOutcome rate t octets before b next' after' →
+      (a ≡ b) × (after ≡ after') × (convolved_number a ≡ 0 → next ≡ next')
+  dirt_ignored octets a b next next' p q =
       let same : convolve_order rate s.register s.place s.holds (length octets) (length before) ≡ convolve_order rate t.register t.place t.holds (length octets) (length before) = cc in
-      let e : convolved_number r.answer ≡ convolved_number u.answer =
-      first_unique (convolve_order rate t.register t.place t.holds (length octets) (length before)) _ _ (subst (λ (order : List Check). FirstOf order (convolved_number r.answer)) same p.number) q.number in (
-        convolved_known r.answer u.answer e (λ z. p.count z ∙ ap length (own_alike octets) ∙ sym (q.count (sym e ∙ z))),
-        either_way r.answer (λ z. p.symbols z ∙ ap filled (send_alike octets) ∙ sym (q.symbols (sym e ∙ z))) (λ n. (p.refused n).1 ∙ sym (q.refused (λ z. n (e ∙ z))).1),
+      let e : convolved_number a ≡ convolved_number b =
+      first_unique (convolve_order rate t.register t.place t.holds (length octets) (length before)) _ _ (subst (λ (order : List Check). FirstOf order (convolved_number a)) same p.number) q.number in (
+        convolved_known a b e (λ z. p.count z ∙ ap length (own_alike octets) ∙ sym (q.count (sym e ∙ z))),
+        either_way a (λ z. p.symbols z ∙ ap filled (send_alike octets) ∙ sym (q.symbols (sym e ∙ z))) (λ n. (p.refused n).1 ∙ sym (q.refused (λ z. n (e ∙ z))).1),
         λ z. p.state z ∙ state_alike octets ∙ sym (q.state (sym e ∙ z)),
       )
 

@@ -7,18 +7,15 @@ use lib.ListN.{length, set, take}
 use lib.Seq.{length-take-le}
 use Rattle.refusals.specs.Order.{FirstOf}
 use Rattle.refusals.specs.Sizes.{symbol_count, octets_for}
-use Rattle.refusals.specs.Numbers.{verdict_number}
+use Rattle.std.specs.Prelude.{Ok, Err}
+use Rattle.refusals.specs.Numbers.{parameter_number}
 use Rattle.refusals.specs.Calls.{input_over, output, convolve_order, coder_close_order}
 use Rattle.refusals.specs.Working.{coder_parameters}
 use Rattle.refusals.specs.declared.Parameter.{Parameter}
-use Rattle.refusals.specs.declared.Verdict.{Verdict}
-use Rattle.refusals.specs.declared.Verdict.TheVariants as verdict
 use Rattle.refusals.proofs.Orders.{accepted_clear, first_accepts, not_different}
 use Rattle.refusals.proofs.Legal.{LegalCoder, coder_numbers, accepted_coder}
-use Rattle.refusals.proofs.Verdicts.{parameter_nonzero, same_verdict, passed}
+use Rattle.refusals.proofs.Verdicts.{parameter_nonzero}
 use Rattle.convolution.specs.declared.State.{State}
-use Rattle.convolution.specs.declared.Ran.{Ran}
-use Rattle.convolution.specs.declared.Convolved.TheVariants.{Done, Refused}
 use Rattle.convolution.specs.Coder.{low_bits, first_octet, packed}
 use Rattle.convolution.specs.Outcome.{convolved_number, convolved_count, held_of, ConvolveOutcome, CloseOutcome}
 use Rattle.convolution.specs.Working.{Accepted}
@@ -57,43 +54,41 @@ legal_close r s symbols f =
       room = not_different symbols (octets_for s.holds) clear.1.1.1.1.0;
     }
 
-module _ (rate : ℕ) (s : State) (octets before : List ℕ) (v : Verdict) (first : FirstOf (convolve_order rate s.register s.place s.holds (length octets) (length before)) (verdict_number v)) where
-  pub refused_outcome : (p : Parameter) → v ≡ verdict.Refused p → ConvolveOutcome rate s octets before (record { answer = Refused p; state = s }) before
-  refused_outcome p e =
+module _ (rate : ℕ) (s : State) (octets before : List ℕ) where
+  pub refused_outcome : (p : Parameter) → FirstOf (convolve_order rate s.register s.place s.holds (length octets) (length before)) (parameter_number p) → ConvolveOutcome rate s octets before (Err p) s before
+  refused_outcome p first =
       record {
-        number = same_verdict (convolve_order rate s.register s.place s.holds (length octets) (length before)) v (verdict.Refused p) e first;
+        number = first;
         refused = λ n. (refl, refl);
         count = λ none. absurd (parameter_nonzero p none);
         symbols = λ none. absurd (parameter_nonzero p none);
         state = λ none. absurd (parameter_nonzero p none);
       }
 
-  pub done_outcome : (r : Ran) (after : List ℕ) → v ≡ verdict.Accepted → Accepted rate s octets r after → ConvolveOutcome rate s octets before r after
-  done_outcome r after e done =
-      let order = convolve_order rate s.register s.place s.holds (length octets) (length before) in
-      let none : convolved_number r.answer ≡ 0 = ap convolved_number done.count in
+  pub done_outcome : (n : ℕ) (next : State) (after : List ℕ) → FirstOf (convolve_order rate s.register s.place s.holds (length octets) (length before)) 0 → Accepted rate s octets n next after → ConvolveOutcome rate s octets before (Ok n) next after
+  done_outcome n next after first done =
       record {
-        number = subst (λ (n : ℕ). FirstOf order n) (sym none) (passed order v e first);
-        refused = λ some. absurd (some none);
-        count = λ n. ap convolved_count done.count;
-        symbols = λ n. done.symbols;
-        state = λ n. done.state;
+        number = first;
+        refused = λ some. absurd (some refl);
+        count = λ none. done.count;
+        symbols = λ none. done.symbols;
+        state = λ none. done.state;
       }
 
-module _ (rate : ℕ) (s : State) (before : List ℕ) (v : Verdict) (first : FirstOf (coder_close_order rate s.register s.place s.holds (length before)) (verdict_number v)) where
-  pub close_refused : (p : Parameter) → v ≡ verdict.Refused p → CloseOutcome rate s before (Refused p) before
-  close_refused p e =
+module _ (rate : ℕ) (s : State) (before : List ℕ) where
+  pub close_refused : (p : Parameter) → FirstOf (coder_close_order rate s.register s.place s.holds (length before)) (parameter_number p) → CloseOutcome rate s before (Err p) before
+  close_refused p first =
       record {
-        number = same_verdict (coder_close_order rate s.register s.place s.holds (length before)) v (verdict.Refused p) e first;
+        number = first;
         refused = λ n. refl;
         count = λ none. absurd (parameter_nonzero p none);
         symbols = λ none. absurd (parameter_nonzero p none);
       }
 
-  pub close_done : (n : ℕ) (after : List ℕ) → v ≡ verdict.Accepted → n ≡ s.holds → after ≡ packed (held_of s) → CloseOutcome rate s before (Done n) after
-  close_done n after e count packs =
+  pub close_done : (n : ℕ) (after : List ℕ) → FirstOf (coder_close_order rate s.register s.place s.holds (length before)) 0 → n ≡ s.holds → after ≡ packed (held_of s) → CloseOutcome rate s before (Ok n) after
+  close_done n after first count packs =
       record {
-        number = passed (coder_close_order rate s.register s.place s.holds (length before)) v e first;
+        number = first;
         refused = λ some. absurd (some refl);
         count = λ none. count;
         symbols = λ none. packs;

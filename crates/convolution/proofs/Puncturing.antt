@@ -11,8 +11,9 @@ use lib.Bits.{bit_xor, bit_and, xor_shr, and_shr, xor_mod, and_mod, and_mask}
 use lib.ListN.{length, get_or}
 use Rattle.field.proofs.Sum.{IsBit, b0, b1, bit_of_lem}
 use Rattle.refusals.specs.Sizes.{period}
+use Rattle.refusals.proofs.Legal.{first-five}
 use Rattle.convolution.specs.Coder.{low_bits, c1_patterns, c2_patterns, pattern_at, sent, next_place, place_after}
-use Rattle.convolution.specs.Working.{patterns_from, picked_from, mixed, ahead, place_before, Rows, Joined, Begun}
+use Rattle.convolution.specs.Working.{patterns_from, picked_from, mixed, ahead, Rows, Joined, Begun}
 use Rattle.convolution.specs.declared.Picking.{Picking}
 use Rattle.convolution.proofs.Bits.{low_first, low_split, low_mod}
 use Rattle.convolution.proofs.Count.{ahead-next, Regular, patterned, regular}
@@ -140,12 +141,12 @@ after_none p zero (suc n) h = absurd (omega arith)
 after_none p (suc a) (suc n) h = after_none p a n (omega arith) ∙ omega arith
 
 -- The place is known by what is ahead.
-pub place_back : (p place : ℕ) → place < p → place ≡ place_before p (ahead p place)
+pub place_back : (p place : ℕ) → place < p → place ≡ ahead p (ahead p place)
 place_back p zero h = refl
 place_back p (suc q) h =
     let here : p - suc q ≡ suc (p - suc q - 1) = omega arith in
     let there : suc q ≡ p - suc (p - suc q - 1) = omega arith in
-    there ∙ sym (ap (place_before p) here)
+    there ∙ sym (ap (ahead p) here)
 
 pub ahead_some : (p place : ℕ) → (place ≡ 0 → ⊥) → p - place ≡ ahead p place
 ahead_some p zero n = absurd (n refl)
@@ -154,10 +155,6 @@ ahead_some p (suc q) n = refl
 pub ahead_small : (p place : ℕ) → place < p → ahead p place < p
 ahead_small p zero h = h
 ahead_small p (suc q) h = omega arith
-
-pub before_some : (p a : ℕ) → (a ≡ 0 → ⊥) → p - a ≡ place_before p a
-before_some p zero n = absurd (n refl)
-before_some p (suc a) n = refl
 
 -- ---- the same in numbers
 
@@ -248,7 +245,7 @@ module _ (p : ℕ) (s r : Picking) (m y : ℕ) (begun : Begun p s m y r) where
 
 module _ (rate p : ℕ) (c1 : List ℕ) (rows : Rows rate p c1) where
   patterns : Regular rate
-  patterns = regular rate rows.legal
+  patterns = regular rate (first-five [] rate (omega (arith, rows.some)) rows.five)
 
   pub some_period : 0 < p
   some_period = subst (λ (n : ℕ). 0 < n) (sym rows.bits) patterns.some
@@ -274,6 +271,6 @@ module _ (rate p : ℕ) (c1 : List ℕ) (rows : Rows rate p c1) where
     pub ends_small : end < period rate
     ends_small = after_small rate patterns 8 place first small
 
-    pub ends_place : (a left : ℕ) → left ≤ a → ahead_after p a left ≡ ahead p end → place_before p (a - left) ≡ end
+    pub ends_place : (a left : ℕ) → left ≤ a → ahead_after p a left ≡ ahead p end → ahead p (a - left) ≡ end
     ends_place a left few e =
-        ap (place_before p) (sym (after_none p a left few) ∙ e) ∙ sym (place_back p end (subst (λ (n : ℕ). end < n) (sym rows.bits) ends_small))
+        ap (ahead p) (sym (after_none p a left few) ∙ e) ∙ sym (place_back p end (subst (λ (n : ℕ). end < n) (sym rows.bits) ends_small))

@@ -1,11 +1,16 @@
 -- Laws of what a state has yet to send: a bit taken in, an octet's bits, whole octets written out.
 use mathlib.Core.Path.{◌≡◌, refl, sym, ap, ap₂, ◌∙◌, subst}
 use mathlib.Core.List.{List, [], ◌∷◌, ◌++◌, append_assoc, append-nil}
-use Prim.Native.Nat.{ℕ, ◌+◌, ◌-◌, ◌*◌, ◌/◌, ◌%◌, ◌^◌, ◌≤◌, ◌<◌}
+use Prim.Native.Nat.{ℕ, zero, suc, ◌+◌, ◌-◌, ◌*◌, ◌/◌, ◌%◌, ◌^◌, ◌≤◌, ◌<◌}
 use native.Mathlib.Omega.{arith}
 use native.Mathlib.Numerals.{add-one}
 use borrow.Author.Tests.{eq-eqb, ne_eqb}
 use lib.ListN.{length, get_or, take, drop, set, length-append, length-set}
+use Rattle.std.specs.Int.{byte_at, bytes_high_first}
+use lib.Pow.{pow-add}
+use native.Mathlib.Nat.{pow-suc}
+use Rattle.std.proofs.lemmas.Bool.{cases_lt}
+use mathlib.Core.Logic.{inl, inr}
 use lib.Seq.{take-suc-set, drop-cons, length-take-le}
 use Rattle.convolution.specs.Coder.{low_bits, bits_of, inverted, symbols_from}
 use Rattle.convolution.specs.Working.{stream, Alike, Filled, Ready, Kept}
@@ -68,6 +73,38 @@ module _ (before : List ℕ) (at held holds : ℕ) where
             ∙ octet_written (set before at v) (at + 1) held (holds - 8) (holds - 16) w (omega arith) (omega arith) f
             ∙ octet_written before at held holds (holds - 8) v (omega arith) (omega arith) e;
       }
+
+-- The last n of the eight octets of a number, the highest first, have its 8 n lowest bits.
+byte_worth : (k : ℕ) → 256 ^ k ≡ 2 ^ (8 * k)
+byte_worth zero = refl
+byte_worth (suc k) =
+    let up : 8 * k + 8 ≡ 8 * suc k = omega arith in
+    pow-suc 256 k ∙ ap (λ (n : ℕ). n * 256) (byte_worth k) ∙ sym (pow-add 2 (8 * k) 8) ∙ ap (λ (n : ℕ). 2 ^ n) up
+
+byte_is : (k x : ℕ) → byte_at k x ≡ x / 2 ^ (8 * k) % 256
+byte_is zero x = omega arith
+byte_is (suc k) x = ap (λ (n : ℕ). x / n % 256) (byte_worth (suc k))
+
+high_first : (k x : ℕ) → bits_of (bytes_high_first k x) ≡ low_bits (8 * k) x
+high_first zero x = refl
+high_first (suc k) x =
+    let up : 8 + 8 * k ≡ 8 * suc k = omega arith in
+    ap₂ ◌++◌ (ap (low_bits 8) (byte_is k x) ∙ low_mod 8 8 (x / 2 ^ (8 * k)) (omega arith)) (high_first k x) ∙ sym (low_split 8 (8 * k) x) ∙ ap (λ (n : ℕ). low_bits n x) up
+
+last_of : (k n x : ℕ) → n ≤ k → drop (k - n) (bytes_high_first k x) ≡ bytes_high_first n x
+last_of zero n x h = let e : n ≡ 0 = omega arith in rw e refl
+last_of (suc k) n x h = elim (cases_lt k n) [
+  | inl top ↦
+      let e : n ≡ suc k = omega arith in
+      let z : suc k - n ≡ 0 = omega arith in
+      rw (z, e) refl
+  | inr lower ↦
+      let e : suc k - n ≡ suc (k - n) = omega arith in
+      rw e (last_of k n x (omega arith))
+]
+
+pub last_octets : (n x : ℕ) → n ≤ 8 → bits_of (drop (8 - n) (bytes_high_first 8 x)) ≡ low_bits (8 * n) x
+last_octets n x h = ap bits_of (last_of 8 n x h) ∙ high_first n x
 
 -- The state that took an octet in stands for one octet less to come.
 pub octet_gone : (rate i : ℕ) (octets : List ℕ) (s full : Flow) →

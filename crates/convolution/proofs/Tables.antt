@@ -9,6 +9,7 @@ use lib.ListN.{get_or}
 use Rattle.field.proofs.Below.{both, both_left, both_right, all_below, at-below}
 use Rattle.refusals.specs.Order.{OneOf}
 use Rattle.refusals.specs.Sizes.{period, rates, symbol_count}
+use Rattle.refusals.proofs.Legal.{rate_bounds}
 use Rattle.convolution.specs.Coder.{low_bits}
 use Rattle.convolution.specs.Working.{patterns_from, Rows}
 use Rattle.convolution.proofs.Count.{each_rate}
@@ -46,7 +47,8 @@ tested rate legal bits most test =
     record {
       bits = bits;
       most = most;
-      legal = legal;
+      some = (rate_bounds rate legal).0;
+      five = (rate_bounds rate legal).1;
       masks = λ place h.
           same_lists (low_bits 8 (get_or (get_or masks (rate - 1) []) place 0)) (patterns_from rate place 8)
           (at-below (λ place. same (low_bits 8 (get_or (get_or masks (rate - 1) []) place 0)) (patterns_from rate place 8)) (get_or periods (rate - 1) 0) test place h);

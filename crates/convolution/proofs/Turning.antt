@@ -7,6 +7,7 @@ use native.Mathlib.Nat.{mod-lt, mod-eq_of_lt, div-lt_iff_lt-mul}
 use native.Mathlib.Numerals.{add-one}
 use native.Mathlib.Omega.{arith}
 use lib.Pow.{pow_pos, pow_mono, shr-shr, shr_lt}
+use Rattle.std.specs.Prelude.{slice_range}
 use lib.ListN.{length, get_or, take, drop, length-append, length-drop, take-append-drop, drop_of_length-le}
 use lib.Seq.{length-take-le, take-suc, get_or-drop, drop-drop}
 use Rattle.refusals.specs.Sizes.{period}
@@ -14,11 +15,11 @@ use Rattle.convolution.specs.declared.Flow.{Flow}
 use Rattle.convolution.specs.declared.Group.{Group}
 use Rattle.convolution.specs.declared.Progress.{Progress}
 use Rattle.convolution.specs.Coder.{low_bits, bits_of, g1, g2, symbols_from, register_after, place_after}
-use Rattle.convolution.specs.Working.{stream, sums_of, picked_from, Sound, Filled, Ready, Kept, Run}
+use Rattle.convolution.specs.Working.{stream, added, sums_of, picked_from, Sound, Filled, Ready, Kept, Run}
 use Rattle.convolution.specs.GroupWorking.{SumsBy, symbols_by, Grouped, Put, whole_of, Underway, Turned}
 use Rattle.convolution.proofs.Bits.{low_split, low_mod, low_length, bits-append}
 use Rattle.convolution.proofs.Symbols.{symbols-append, register-append, place-append}
-use Rattle.convolution.proofs.AtOnce.{register-at, symbols_picked, none_inverted}
+use Rattle.convolution.proofs.AtOnce.{all-g1, all-g2, register-at, symbols_picked, none_inverted}
 use Rattle.convolution.proofs.Puncturing.{fits_below, joined-below}
 use Rattle.convolution.proofs.Stream.{octet_gone, octets_out, room, lengths, ended}
 
@@ -29,7 +30,7 @@ window_small w k few h =
     let fits : w < 64 * 2 ^ (8 * k) = (div-lt_iff_lt-mul (pow_pos (8 * k))).0 h in
     omega (arith, pow_mono {i = 8 * k} {j = 48} (omega arith))
 
-module _ (octets : List ℕ) (at k w octet : ℕ) (within : at + k < length octets) (small : octet < 256) (read : octet ≡ get_or octets (at + k) 0) where
+module _ (octets : List ℕ) (k w octet : ℕ) (within : k < length octets) (small : octet < 256) (read : octet ≡ get_or octets k 0) where
   abbrev next : ℕ
   next = w * 256 + octet
 
@@ -42,18 +43,18 @@ module _ (octets : List ℕ) (at k w octet : ℕ) (within : at + k < length octe
       let sum : 8 * (k + 1) ≡ 8 + 8 * k = omega arith in
       ap (λ (n : ℕ). next / 2 ^ n) sum ∙ sym (shr-shr next 8 (8 * k)) ∙ ap (λ (x : ℕ). x / 2 ^ (8 * k)) one
 
-  pub window-below : low_bits (8 * k) w ≡ bits_of (take k (drop at octets)) → low_bits (8 * (k + 1)) next ≡ bits_of (take (k + 1) (drop at octets))
+  pub window-below : low_bits (8 * k) w ≡ bits_of (take k octets) → low_bits (8 * (k + 1)) next ≡ bits_of (take (k + 1) octets)
   window-below e =
       let one : next / 2 ^ 8 ≡ w = omega arith in
       let low : low_bits 8 next ≡ low_bits 8 octet = sym (low_mod 8 8 next (omega arith)) ∙ ap (low_bits 8) (omega arith) in
-      let more : take (k + 1) (drop at octets) ≡ take k (drop at octets) ++ (octet ∷ []) =
-      ap (λ (n : ℕ). take n (drop at octets)) (add-one k)
-      ∙ take-suc (drop at octets) k 0 (omega (arith, length-drop at octets))
-      ∙ ap (λ (x : ℕ). take k (drop at octets) ++ (x ∷ [])) (get_or-drop at octets k 0 ∙ sym read) in
+      let more : take (k + 1) octets ≡ take k octets ++ (octet ∷ []) =
+      ap (λ (n : ℕ). take n octets) (add-one k)
+      ∙ take-suc octets k 0 within
+      ∙ ap (λ (x : ℕ). take k octets ++ (x ∷ [])) (sym read) in
       ap (λ (n : ℕ). low_bits n next) up
       ∙ low_split (8 * k) 8 next
       ∙ ap₂ ◌++◌ (ap (low_bits (8 * k)) one ∙ e) (low ∙ sym (append-nil (low_bits 8 octet)))
-      ∙ sym (ap bits_of more ∙ bits-append (take k (drop at octets)) (octet ∷ []))
+      ∙ sym (ap bits_of more ∙ bits-append (take k octets) (octet ∷ []))
 
 -- ---- the held symbols go out first
 
@@ -95,8 +96,27 @@ pub six_or_eight : (n : ℕ) → (n ≡ 6) ⊎ (n ≡ 8) → (6 ≤ n) × (n ≤
 six_or_eight n = ⊎_elim (λ e. (omega arith, omega arith)) (λ e. (omega arith, omega arith))
 
 module _ (rate : ℕ) (octets before : List ℕ) (p : Progress) (g : Group) (grouped : Grouped rate g) (under : Underway rate octets before p) (first-place : p.flow.place ≡ 0) (within : p.read + g.octets ≤ length octets)
-    (w x y v : ℕ) (above : w / 2 ^ (8 * g.octets) ≡ p.flow.register) (below : low_bits (8 * g.octets) w ≡ bits_of (take g.octets (drop p.read octets)))
-    (by-g1 : SumsBy g1 w x) (by-g2 : SumsBy g2 w y) (sent : v ≡ symbols_by g x y) where
+    (w x y v : ℕ)
+    (stands : let part = slice_range octets p.read (p.read + g.octets) in (w / 2 ^ (8 * length part) ≡ p.flow.register) × (low_bits (8 * length part) w ≡ bits_of part))
+    (added-g1 : x ≡ added 2 4 8 64 w) (added-g2 : y ≡ added 4 8 32 64 w) (sent : v ≡ symbols_by g x y) where
+  by-g1 : SumsBy g1 w x
+  by-g1 = all-g1 w x added-g1
+
+  by-g2 : SumsBy g2 w y
+  by-g2 = all-g2 w y added-g2
+
+  part_is : slice_range octets p.read (p.read + g.octets) ≡ take g.octets (drop p.read octets)
+  part_is = ap (λ (n : ℕ). take n (drop p.read octets)) (omega arith)
+
+  long : length (slice_range octets p.read (p.read + g.octets)) ≡ g.octets
+  long = ap length part_is ∙ length-take-le g.octets (drop p.read octets) (omega (arith, length-drop p.read octets))
+
+  above : w / 2 ^ (8 * g.octets) ≡ p.flow.register
+  above = ap (λ (n : ℕ). w / 2 ^ (8 * n)) (sym long) ∙ stands.0
+
+  below : low_bits (8 * g.octets) w ≡ bits_of (take g.octets (drop p.read octets))
+  below = ap (λ (n : ℕ). low_bits (8 * n) w) (sym long) ∙ stands.1 ∙ ap bits_of part_is
+
   abbrev s : Flow
   s = p.flow
 

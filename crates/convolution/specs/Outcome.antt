@@ -1,24 +1,26 @@
 -- What a call of `convolve` and a `close` answer, and what they leave in the lent symbols (document 02, (iii); document 01, "Convolutional coder",
 -- "Refusal numbers and the order of checks").
-use Rattle.std.specs.Prelude.{◌≡◌, ◌≢◌, List, ◌++◌, ℕ, length, take}
+use Rattle.std.specs.Prelude.{◌≡◌, ◌≢◌, List, ◌++◌, ℕ, length, take, Result, Ok, Err}
 use Rattle.refusals.specs.Order.{FirstOf}
 use Rattle.refusals.specs.Calls.{convolve_order, coder_close_order}
 use Rattle.refusals.specs.Numbers.{parameter_number}
+use Rattle.refusals.specs.declared.Parameter.{Parameter}
 use Rattle.convolution.specs.declared.State.{State}
-use Rattle.convolution.specs.declared.Ran.{Ran}
-use Rattle.convolution.specs.declared.Convolved.{Convolved}
-use Rattle.convolution.specs.declared.Convolved.TheVariants.{Done, Refused}
 use Rattle.convolution.specs.Coder.{low_bits, bits_of, register_after, place_after, symbols_from, first_octet, packed, filled, left}
+
+-- What a call answers: how many symbols, or why it is refused.
+abbrev pub Convolved : Type 0
+Convolved = Result ℕ Parameter
 
 -- The refusal's number, 0 if the call is accepted.
 abbrev pub convolved_number : Convolved → ℕ
-convolved_number (Done count) = 0
-convolved_number (Refused parameter) = parameter_number parameter
+convolved_number (Ok count) = 0
+convolved_number (Err parameter) = parameter_number parameter
 
 -- The symbol count that the answer reports, 0 if the call is refused.
 abbrev pub convolved_count : Convolved → ℕ
-convolved_count (Done count) = count
-convolved_count (Refused parameter) = 0
+convolved_count (Ok count) = count
+convolved_count (Err parameter) = 0
 
 -- The state at the start: document 01's coder, with nothing held.
 abbrev pub zero_state : State
@@ -48,12 +50,12 @@ state_after rate s octets =
 
 -- The first refusal that is due leaves the state and the lent octets as they were; else the call's own symbols are counted, the octets that
 -- are filled are written, and the state runs on.
-pub record ConvolveOutcome (rate : ℕ) (s : State) (octets before : List ℕ) (r : Ran) (after : List ℕ) : Type 0 where
-  pub number : FirstOf (convolve_order rate s.register s.place s.holds (length octets) (length before)) (convolved_number r.answer)
-  pub refused : convolved_number r.answer ≢ 0 → (r.state ≡ s) × (after ≡ before)
-  pub count : convolved_number r.answer ≡ 0 → convolved_count r.answer ≡ length (symbols_of rate s octets)
-  pub symbols : convolved_number r.answer ≡ 0 → after ≡ filled (to_send rate s octets)
-  pub state : convolved_number r.answer ≡ 0 → r.state ≡ state_after rate s octets
+pub record ConvolveOutcome (rate : ℕ) (s : State) (octets before : List ℕ) (answer : Convolved) (next : State) (after : List ℕ) : Type 0 where
+  pub number : FirstOf (convolve_order rate s.register s.place s.holds (length octets) (length before)) (convolved_number answer)
+  pub refused : convolved_number answer ≢ 0 → (next ≡ s) × (after ≡ before)
+  pub count : convolved_number answer ≡ 0 → convolved_count answer ≡ length (symbols_of rate s octets)
+  pub symbols : convolved_number answer ≡ 0 → after ≡ filled (to_send rate s octets)
+  pub state : convolved_number answer ≡ 0 → next ≡ state_after rate s octets
 
 -- So with a close, which writes the symbols held, if there are any, as one octet.
 pub record CloseOutcome (rate : ℕ) (s : State) (before : List ℕ) (answer : Convolved) (after : List ℕ) : Type 0 where

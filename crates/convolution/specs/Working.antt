@@ -1,13 +1,10 @@
 -- How the coder goes: what the private functions compute. The public promise speaks of none of it.
 use Rattle.std.specs.Prelude.{◌≡◌, List, [], ◌∷◌, ◌++◌, ℕ, zero, suc, ◌+◌, ◌-◌, ◌*◌, ◌/◌, ◌%◌, ◌^◌, ◌≤◌, ◌<◌, length, get_or, take}
 use Rattle.std.specs.Int.Bits.{bit_xor, bit_and}
-use Rattle.refusals.specs.Order.{OneOf}
-use Rattle.refusals.specs.Sizes.{period, rates}
+use Rattle.refusals.specs.Sizes.{period}
 use Rattle.convolution.specs.declared.State.{State}
 use Rattle.convolution.specs.declared.Flow.{Flow}
 use Rattle.convolution.specs.declared.Picking.{Picking}
-use Rattle.convolution.specs.declared.Ran.{Ran}
-use Rattle.convolution.specs.declared.Convolved.TheVariants.{Done}
 use Rattle.convolution.specs.Coder.{low_bits, bits_of, connected, c1_patterns, c2_patterns, pattern_at, sent, inverted, next_register, next_place, symbols_from, register_after, place_after, first_octet, filled}
 use Rattle.convolution.specs.Outcome.{held_of, symbols_of, to_send, state_after}
 
@@ -16,11 +13,12 @@ abbrev pub patterns_from : ℕ → ℕ → ℕ → List ℕ
 patterns_from rate place zero = []
 patterns_from rate place (suc n) = pattern_at c1_patterns rate place ∷ patterns_from rate (next_place rate place) n
 
--- The period and the row are those of the rate.
+-- The rate is one of the five, and the period and the row are those of the rate.
 pub record Rows (rate p : ℕ) (c1 : List ℕ) : Type 0 where
   pub bits : p ≡ period rate
   pub most : p ≤ 7
-  pub legal : OneOf rates rate
+  pub some : 1 ≤ rate
+  pub five : rate ≤ 5
   pub masks : (place : ℕ) → place < p → low_bits 8 (get_or c1 place 0) ≡ patterns_from rate place 8
 
 -- What a state has yet to send: the held symbols, then those of the bits to come.
@@ -38,6 +36,10 @@ pub record Sound (rate : ℕ) (s : Flow) : Type 0 where
 abbrev pub sums_of : List ℕ → ℕ → List ℕ → List ℕ
 sums_of vector register [] = []
 sums_of vector register (bit ∷ bits) = connected vector register bit ∷ sums_of vector (next_register register bit) bits
+
+-- A window added bit by bit, modulo 2, to itself, divided by each of four numbers.
+abbrev pub added : ℕ → ℕ → ℕ → ℕ → ℕ → ℕ
+added i j k l w = bit_xor (bit_xor (bit_xor (bit_xor w (w / i)) (w / j)) (w / k)) (w / l)
 
 -- Each of them as the rate sends C2.
 abbrev pub all_inverted : ℕ → List ℕ → List ℕ
@@ -60,14 +62,10 @@ spread_of (suc n) x = spread_of n (x / 2) * 4 + x % 2
 abbrev pub mixed : ℕ → ℕ → ℕ → ℕ
 mixed first second mask = bit_xor second (bit_and (bit_xor first second) mask)
 
--- The bits from a place to the next that begins a period, and the place so many bits before one.
+-- The bits from a place to the next that begins a period. It undoes itself: so many bits before one is the place.
 abbrev pub ahead : ℕ → ℕ → ℕ
 ahead p zero = 0
 ahead p (suc place) = p - suc place
-
-abbrev pub place_before : ℕ → ℕ → ℕ
-place_before p zero = 0
-place_before p (suc n) = p - suc n
 
 -- The n lowest of some bits stand below the held symbols, of however few these are, in a number of so many bits.
 abbrev pub Joined : ℕ → ℕ → ℕ → ℕ → ℕ → Type 0
@@ -134,8 +132,8 @@ pub record Handed (s : Flow) (r : State) : Type 0 where
   pub holds : r.holds ≡ s.holds
   pub held : r.held ≡ first_octet (low_bits s.holds s.held)
 
--- What an accepted call answers and leaves.
-pub record Accepted (rate : ℕ) (s : State) (octets : List ℕ) (r : Ran) (after : List ℕ) : Type 0 where
-  pub count : r.answer ≡ Done (length (symbols_of rate s octets))
-  pub state : r.state ≡ state_after rate s octets
+-- What an accepted call counts and leaves.
+pub record Accepted (rate : ℕ) (s : State) (octets : List ℕ) (n : ℕ) (next : State) (after : List ℕ) : Type 0 where
+  pub count : n ≡ length (symbols_of rate s octets)
+  pub state : next ≡ state_after rate s octets
   pub symbols : after ≡ filled (to_send rate s octets)

@@ -13,31 +13,18 @@ mod writing;
 
 ghost use Rattle.convolution.specs.Outcome.{ConvolveOutcome, CloseOutcome};
 
-use refusals::{Parameter, Verdict};
+use refusals::Parameter;
 use running::run_on;
 use writing::{last_octet, top_bits};
 
 // What the coder carries from call to call: the last six bits, the newest lowest; the place in the puncture period; how many symbols are
 // held, 0 to 7; and those symbols, top bit first. All zero at the start.
-#[derive(Clone, Copy)]
+#[derive(Clone, Copy, Debug, PartialEq, Eq)]
 pub struct State {
     pub register: u8,
     pub place: u8,
     pub holds: u8,
     pub held: u8,
-}
-
-#[derive(Clone, Copy)]
-pub enum Convolved {
-    // The number of symbols.
-    Done(u32),
-    Refused(Parameter),
-}
-
-#[derive(Clone, Copy)]
-pub struct Ran {
-    pub answer: Convolved,
-    pub state: State,
 }
 
 // What it carries from bit to bit: the same, but the held symbols, up to 23 of them, with the newest lowest. Bits of `held` above
@@ -83,43 +70,34 @@ struct Group {
     ones: u64,
 }
 
-pub fn convolve(rate: u32, state: State, octets: &[u8], symbols: &mut [u8]) -> Ran
-    ensures { ConvolveOutcome rate state octets.now symbols.old result symbols.new }
+// The number of symbols is that of the octets lent, without those held before.
+pub fn convolve(
+    rate: u32,
+    state: &mut State,
+    octets: &[u8],
+    symbols: &mut [u8],
+) -> Result<u32, Parameter>
+    ensures { ConvolveOutcome rate state.old octets.now symbols.old result state.new symbols.new }
 {
-    let checked = refusals::convolve_parameters(
+    refusals::convolve_parameters(
         rate,
         state.register,
         state.place,
         state.holds,
         octets.len(),
         symbols.len(),
-    );
-    if let Verdict::Refused(parameter) = checked {
-        return Ran {
-            answer: Convolved::Refused(parameter),
-            state,
-        };
-    }
-    run_on(rate, state, octets, symbols)
+    )?;
+    Ok(run_on(rate, state, octets, symbols))
 }
 
-pub fn close(rate: u32, state: State, symbols: &mut [u8]) -> Convolved
+pub fn close(rate: u32, state: State, symbols: &mut [u8]) -> Result<u32, Parameter>
     ensures { CloseOutcome rate state symbols.old result symbols.new }
 {
-    let checked = refusals::coder_close_parameters(
-        rate,
-        state.register,
-        state.place,
-        state.holds,
-        symbols.len(),
-    );
-    if let Verdict::Refused(parameter) = checked {
-        return Convolved::Refused(parameter);
+    let held = state.holds;
+    refusals::coder_close_parameters(rate, state.register, state.place, held, symbols.len())?;
+    let holds = usize::from(held);
+    if holds > 0 {
+        symbols[0] = last_octet(top_bits(state.held, holds), holds);
     }
-    let holds = state.holds as usize;
-    if holds == 0 {
-        return Convolved::Done(0);
-    }
-    symbols[0] = last_octet(top_bits(state.held, holds), holds);
-    Convolved::Done(holds as u32)
+    Ok(u32::from(held))
 }

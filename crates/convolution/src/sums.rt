@@ -1,27 +1,60 @@
-// The sums of eight bits at once, over a window: the register with the octet below it. Added bit by bit, modulo 2, to itself moved down,
-// the window has at each of its eight lowest places the sum for the bit there.
-ghost use Rattle.std.specs.Prelude.{◌≡◌, ◌/◌, ◌%◌, ◌<◌};
-ghost use Rattle.convolution.specs.Coder.{low_bits, g1, g2};
-ghost use Rattle.convolution.specs.Working.{sums_of, all_inverted};
+// The sums of many bits at once, over a window: the register with the bits below it. Added bit by bit, modulo 2, to itself moved down,
+// the window has at the place of each bit the sum for that bit.
+ghost use Rattle.std.specs.Prelude.{◌≡◌, ℕ, ◌/◌, ◌^◌, ◌<◌, bit_xor};
+ghost use Rattle.convolution.specs.Working.{added};
 
-pub(crate) fn sums_by_g1(window: u32) -> u32
-    ensures { (low_bits 8 result ≡ sums_of g1 (window / 256 % 64) (low_bits 8 window)) × (result < 256) }
-{
-    (window ^ (window / 2) ^ (window / 4) ^ (window / 8) ^ (window / 64)) % 256
+// A number that can be one: of 64 bits for a group, of 32 for an octet, so that the compiler makes more of them at once.
+pub(crate) trait Window: Copy {
+    ghost value: { Self → ℕ };
+
+    fn down(self, by: u32) -> Self
+        requires { by < 32 }
+        ensures { value result ≡ value self / 2 ^ by };
+
+    fn plus(self, other: Self) -> Self
+        ensures { value result ≡ bit_xor (value self) (value other) };
 }
 
-pub(crate) fn sums_by_g2(window: u32) -> u32
-    ensures { (low_bits 8 result ≡ sums_of g2 (window / 256 % 64) (low_bits 8 window)) × (result < 256) }
-{
-    (window ^ (window / 4) ^ (window / 8) ^ (window / 32) ^ (window / 64)) % 256
-}
+impl Window for u32 {
+    ghost value = { λ x. x };
 
-pub(crate) fn inverted_at_half(rate: u32, sums: u32) -> u32
-    requires { sums < 256 }
-    ensures { (low_bits 8 result ≡ all_inverted rate (low_bits 8 sums)) × (result < 256) }
-{
-    if rate == 1 {
-        return 255 - sums;
+    fn down(self, by: u32) -> u32 {
+        self >> by
     }
-    sums
+
+    fn plus(self, other: u32) -> u32 {
+        self ^ other
+    }
+}
+
+impl Window for u64 {
+    ghost value = { λ x. x };
+
+    fn down(self, by: u32) -> u64 {
+        self >> by
+    }
+
+    fn plus(self, other: u64) -> u64 {
+        self ^ other
+    }
+}
+
+// A connection vector, by the places of its other bits behind the present one.
+pub(crate) struct Vector<const I: u32, const J: u32, const K: u32, const L: u32>;
+
+pub(crate) type G1 = Vector<1, 2, 3, 6>;
+
+pub(crate) type G2 = Vector<2, 3, 5, 6>;
+
+impl<const I: u32, const J: u32, const K: u32, const L: u32> Vector<I, J, K, L> {
+    pub(crate) fn sums<W: Window>(window: W) -> W
+        requires { (I < 32) × (J < 32) × (K < 32) × (L < 32) }
+        ensures { W.value result ≡ added (2 ^ I) (2 ^ J) (2 ^ K) (2 ^ L) (W.value window) }
+    {
+        window
+            .plus(window.down(I))
+            .plus(window.down(J))
+            .plus(window.down(K))
+            .plus(window.down(L))
+    }
 }

@@ -22,11 +22,11 @@ pub(crate) fn write_ready(symbols: &mut [u8], at: usize, held: u32, holds: usize
     if holds < 8 {
         return;
     }
-    symbols[at] = octet_above(held as u64, holds - 8);
+    symbols[at] = octet_above(u64::from(held), holds - 8);
     if holds < 16 {
         return;
     }
-    symbols[at + 1] = octet_above(held as u64, holds - 16);
+    symbols[at + 1] = octet_above(u64::from(held), holds - 16);
 }
 
 // The lowest octets of a number, the first at `at`.
@@ -34,9 +34,7 @@ fn write_number(symbols: &mut [u8], at: usize, number: u64, n: usize)
     requires { (n ≤ 8) × (at + n ≤ length symbols.old) }
     ensures { Put symbols.old at number n symbols.new }
 {
-    for k in 0..n {
-        symbols[at + k] = octet_above(number, 8 * (n - 1 - k));
-    }
+    symbols[at..at + n].copy_from_slice(&number.to_be_bytes()[8 - n..]);
 }
 
 // The numbers that can be are told apart, so that each is written in one piece.
@@ -59,7 +57,7 @@ pub(crate) fn behind_held(held: u32, holds: usize, symbols: u64, n: usize) -> u6
     if holds == 0 {
         return symbols;
     }
-    ((held as u64) << (n - holds)) + (symbols >> holds)
+    (u64::from(held) << (n - holds)) + (symbols >> holds)
 }
 
 // What stays held once the whole octets are out. The remainder keeps `held` small for the next octet.
@@ -87,5 +85,5 @@ pub(crate) fn top_bits(octet: u8, n: usize) -> u32
     requires { n < 8 }
     ensures { (low_bits n result ≡ take n (low_bits 8 octet)) × (result < 128) }
 {
-    (octet as u32) >> (8 - n)
+    u32::from(octet) >> (8 - n)
 }

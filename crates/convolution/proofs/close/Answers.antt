@@ -1,42 +1,27 @@
--- `close` meets its contract: by the verdict of the checks, and by whether symbols are held.
-use mathlib.Core.Path.{refl, sym, ap, ◌∙◌}
+-- `close` meets its contract: as the checks refuse, or by whether symbols are held.
+use mathlib.Core.Path.{◌≡◌, ap, ◌∙◌}
+use mathlib.Core.List.{List}
+use Prim.Native.Nat.{ℕ}
 use native.Mathlib.Omega.{arith}
-use lib.ListN.{length}
-use Rattle.refusals.specs.Calls.{coder_close_order}
-use Rattle.refusals.proofs.Verdicts.{passed}
-use Rattle.convolution.specs.Coder.{first_octet}
-use Rattle.convolution.proofs.Outcomes.{LegalClose, legal_close, close_refused, close_done, closed_none, closed_some}
+use lib.ListN.{length, take}
+use Rattle.convolution.specs.Coder.{low_bits, first_octet, packed}
+use Rattle.convolution.specs.Outcome.{held_of}
+use Rattle.convolution.proofs.Outcomes.{legal_close, close_done, closed_none, closed_some}
 use Rattle.convolution.proofs.close.Goals as goal
-use Rattle.convolution.proofs.close.Goals.{In_default}
-
--- What the checks have left when they have passed.
-legal : (c : In_default) → LegalClose c.args.rate c.args.state (length c.args.symbols.now)
-legal c =
-    let checked = c.coder_close_parameters-checked in
-    legal_close c.args.rate c.args.state _ (passed (coder_close_order _ _ _ _ _) checked.result c.in_default.is checked.ensures)
-
-pub returns-in-Refused : goal.returns-in-Refused
-returns-in-Refused c = close_refused _ _ _ _ c.coder_close_parameters-checked.ensures _ c.in-Refused.is
-
-pub returns-then-holds-eq0 : goal.returns-then-holds-eq0
-returns-then-holds-eq0 c =
-    let checked = c.coder_close_parameters-checked in
-    let none = c.if-holds-eq0.true in
-    close_done c.args.rate c.args.state c.args.symbols.now checked.result checked.ensures 0 c.args.symbols.now c.in_default.is (sym none)
-    (closed_none c.args.state c.args.symbols.now none (legal (goal.at.returns-then-holds-eq0 c).In_default).room)
+use Rattle.convolution.proofs.close.Goals.{then-holds-gt0, else-holds-gt0}
 
 pub returns : goal.returns
 returns c =
-    let checked = c.coder_close_parameters-checked in
-    let known = legal (goal.at.returns c).In_default in
-    close_done c.args.rate c.args.state c.args.symbols.now checked.result checked.ensures c.args.state.holds _ c.in_default.is refl
-    (closed_some c.args.state c.args.symbols.now c.last_octet.result (omega (arith, c.if-holds-eq0.false)) known.coder.holds known.room (c.last_octet.ensures ∙ ap first_octet c.top_bits.ensures.0))
-
-pub top_bits-requires : goal.top_bits-requires
-top_bits-requires c = (legal (goal.at.top_bits-requires c).In_default).coder.holds
-
-pub last_octet-requires : goal.last_octet-requires
-last_octet-requires c = (c.top_bits.ensures.1, (legal (goal.at.last_octet-requires c).In_default).coder.holds)
-
-pub bounds-symbols-0 : goal.bounds-symbols-0
-bounds-symbols-0 c = omega (arith, (legal (goal.at.bounds-symbols-0 c).In_default).room, c.if-holds-eq0.false)
+    let s = c.args.state in
+    let before = c.args.symbols.now in
+    let passed = c.in_ok-coder_close_parameters.ensures in
+    let known = legal_close c.args.rate s (length before) passed in
+    let held : c.if-holds-gt0.symbols ≡ packed (held_of s) =
+    elim c.if-holds-gt0.branch [
+      | then-holds-gt0 w ↦
+          w.symbols-is
+          ∙ closed_some s before w.last_octet.result (omega arith) known.coder.holds known.room
+          (w.last_octet.ensures ∙ ap first_octet w.top_bits.ensures.0 ∙ ap (λ (n : ℕ). first_octet (take n (low_bits 8 s.held))) c.from-holds.ensures)
+      | else-holds-gt0 w ↦ w.symbols-is ∙ closed_none s before (omega arith) known.room
+    ] in
+    close_done c.args.rate s before c.from.result c.if-holds-gt0.symbols passed c.from.ensures held

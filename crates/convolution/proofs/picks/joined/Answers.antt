@@ -11,9 +11,11 @@ pub overflow_sub-result : goal.overflow_sub-result
 overflow_sub-result c = omega (arith, one_up c.args.n c.requires, pow_pos c.args.n)
 
 pub overflow_add-result : goal.overflow_add-result
-overflow_add-result c = omega (arith, lowest_masked c.args.bits c.args.n c.requires, fits_below 32 c.args.held c.args.bits c.args.n (omega arith))
+overflow_add-result c =
+    rw c.from.ensures (omega (arith, lowest_masked c.args.bits c.args.n c.requires, fits_below 32 c.args.held c.args.bits c.args.n (omega arith)))
 
 pub returns : goal.returns
 returns c = λ h room.
-    ap (λ (v : ℕ). low_bits (h + c.args.n) (c.args.held * 2 ^ c.args.n % 2 ^ 32 + v)) (lowest_masked c.args.bits c.args.n c.requires)
-    ∙ joined-below 32 c.args.held c.args.bits c.args.n (omega arith) h room
+    rw c.from.ensures
+    (ap (λ (v : ℕ). low_bits (h + c.args.n) (c.args.held * 2 ^ c.args.n % 2 ^ 32 + v)) (lowest_masked c.args.bits c.args.n c.requires)
+    ∙ joined-below 32 c.args.held c.args.bits c.args.n (omega arith) h room)

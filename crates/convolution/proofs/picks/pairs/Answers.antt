@@ -27,6 +27,6 @@ returns c =
           ∙ pairs_joined s.holds s.held c.args.first c.args.second
           ∙ ap (λ (q : ℕ). low_bits s.holds s.held ++ picked_from 1 q (low_bits 8 c.args.first) (low_bits 8 c.args.second)) (sym zero-place);
       place = omega arith;
-      small = c.requires.2;
+      small = c.requires.0;
       holds = omega arith;
     }

@@ -1,15 +1,17 @@
 -- `spread` meets its contract, by a computed test of all octets.
-use Prim.Native.Nat.{ℕ}
-use borrow.Fn.Function.{res_v}
+use Prim.Native.Nat.{ℕ, ◌*◌, ◌%◌, ◌^◌}
+use native.Mathlib.Omega.{arith}
+use lib.Bits.{bit_or, bit_and}
 use Rattle.convolution.specs.Working.{spread_of}
 use Rattle.field.proofs.Below.{equal_below}
-use Rattle.convolution.proofs.picks.spread.Reads as reads
-use Rattle.convolution.proofs.picks.spread.Lts as lts
 use Rattle.convolution.proofs.picks.spread.Goals as goal
 
--- What the code itself returns, read off its last state: the test is of the code, not of a formula written out here.
-abbrev returned : ℕ → ℕ
-returned octet = res_v lts.r tt (lts.m18 reads.Pre reads.Post record { octet = octet }).0
+-- What the code does to an octet.
+abbrev apart : ℕ → ℕ → ℕ → ℕ
+apart by mask bits = bit_and (bit_or bits (bits * 2 ^ by % 2 ^ 32)) mask
+
+abbrev thrice : ℕ → ℕ
+thrice octet = apart 1 0x5555 (apart 2 0x3333 (apart 4 0x0f0f octet))
 
 pub returns : goal.returns
-returns c = equal_below returned (spread_of 8) 256 tt c.args.octet c.requires
+returns c = rw c.from-bits.ensures (equal_below thrice (spread_of 8) 256 tt c.args.octet (omega arith))

@@ -1,55 +1,33 @@
--- `all_in` meets its contract: at rate 1/2 by a loop, whose invariant is that the call has gone so far, by turns of an octet.
+-- `all_in` meets its contract, at rate 1/2 by what is ensured of rate 1.
+use mathlib.Core.List.{List}
 use mathlib.Core.Path.{◌≡◌, sym, subst}
 use Prim.Native.Nat.{ℕ, ◌/◌, ◌≤◌}
-use native.Mathlib.Omega.{arith}
 use lib.ListN.{length}
 use Rattle.convolution.specs.Coder.{bits_of}
-use Rattle.convolution.specs.Working.{stream, Rows, Sound, Run}
+use Rattle.convolution.specs.declared.Flow.{Flow}
+use Rattle.convolution.specs.Working.{stream, Sound, Run}
 use Rattle.convolution.proofs.Pairing.{pairs_room}
-use Rattle.convolution.proofs.Turning.{going_first, going_underway, going_on, going_over}
 use Rattle.convolution.proofs.running.all_in.Goals as goal
 
-pub groups_in-requires : goal.groups_in-requires
-groups_in-requires c =
-    (c.requires.0, c.requires.1, c.requires.2, c.if-rate-ne1.true)
+-- What is asked, or ensured, at a rate that is 1.
+at_half : (rate room : ℕ) (octets : List ℕ) (start : Flow) → rate ≡ 1 → Sound rate start × (length (stream rate start (bits_of octets)) / 8 ≤ room) → Sound 1 start × (length (stream 1 start (bits_of octets)) / 8 ≤ room)
+at_half rate room octets start half = subst (λ (r : ℕ). Sound r start × (length (stream r start (bits_of octets)) / 8 ≤ room)) half
 
-pub returns-then-rate-ne1 : goal.returns-then-rate-ne1
-returns-then-rate-ne1 c = c.groups_in.ensures
+at_rate : (rate : ℕ) (octets : List ℕ) (start end : Flow) (after : List ℕ) → rate ≡ 1 → Run 1 start (bits_of octets) end after → Run rate start (bits_of octets) end after
+at_rate rate octets start end after half = subst (λ (r : ℕ). Run r start (bits_of octets) end after) (sym half)
 
 pub pairs_in-requires : goal.pairs_in-requires
 pairs_in-requires c =
-    let half : c.args.rate ≡ 1 = c.if-rate-ne1.false in
+    let octets = c.args.octets.now in
+    let known = at_half c.args.pattern.now.rate (length c.args.symbols.now) octets c.args.start c.if-pattern-ne1.false c.requires in
     let none = c.if-start-eq0.true in
-    let sound = subst (λ (r : ℕ). Sound r c.args.start) half c.requires.1 in
-    let enough = subst (λ (r : ℕ). length (stream r c.args.start (bits_of c.args.octets.now)) / 8 ≤ length c.args.symbols.now) half c.requires.2 in
-    (subst (λ (r : ℕ). Rows r c.args.period c.args.c1.now) half c.requires.0, sound, none, pairs_room c.args.start c.args.octets.now sound none _ enough)
+    (known.0, none, pairs_room c.args.start octets known.0 none _ known.1)
 
 pub returns-then-start-eq0 : goal.returns-then-start-eq0
-returns-then-start-eq0 c =
-    let half : c.args.rate ≡ 1 = c.if-rate-ne1.false in
-    subst (λ (r : ℕ). Run r c.args.start (bits_of c.args.octets.now) c.pairs_in.result c.pairs_in.new.symbols) (sym half) c.pairs_in.ensures
+returns-then-start-eq0 c = at_rate _ c.args.octets.now c.args.start c.pairs_in.result c.pairs_in.new.symbols c.if-pattern-ne1.false c.pairs_in.ensures
 
-pub loop-at-init : goal.loop-at-init
-loop-at-init c =
-    going_first c.args.rate c.args.octets.now c.args.symbols.now c.args.start c.requires.1
-
-pub one_in-at-requires : goal.one_in-at-requires
-one_in-at-requires c =
-    let at = c.loop-at in
-    (c.requires.0, going_underway c.args.rate c.args.octets.now c.args.symbols.now c.args.start at.symbols at.at at.invariant c.requires.2, c.loop-at-test.true)
-
-pub loop-at-smaller : goal.loop-at-smaller
-loop-at-smaller c = omega (arith, c.one_in-at.ensures.further, c.loop-at-test.true)
-
-pub loop-at-preserved : goal.loop-at-preserved
-loop-at-preserved c =
-    let at = c.loop-at in
-    going_on c.args.rate c.args.octets.now c.args.symbols.now c.args.start at.symbols at.at at.invariant _ c.one_in-at.result c.one_in-at.ensures
-
-pub shape_of-symbols : goal.shape_of-symbols
-shape_of-symbols c = c.loop-at.invariant.long
+pub behind_held_in-requires : goal.behind_held_in-requires
+behind_held_in-requires c = at_half c.args.pattern.now.rate (length c.args.symbols.now) c.args.octets.now c.args.start c.if-pattern-ne1.false c.requires
 
 pub returns : goal.returns
-returns c =
-    let at = c.loop-at in
-    going_over c.args.rate c.args.octets.now c.args.symbols.now c.args.start at.symbols at.at at.invariant (omega (arith, c.loop-at-test.false))
+returns c = at_rate _ c.args.octets.now c.args.start c.behind_held_in.result c.behind_held_in.new.symbols c.if-pattern-ne1.false c.behind_held_in.ensures

@@ -1,41 +1,38 @@
 -- `window_of` meets its contract. The loop's invariant: the register stands above the octets read.
-use mathlib.Core.Path.{◌≡◌, refl, sym, ◌∙◌, subst}
+use mathlib.Core.Path.{◌≡◌, refl, sym, ap, ◌∙◌, subst}
 use Prim.Native.Nat.{ℕ, ◌<◌, ◌+◌, ◌*◌, ◌/◌, ◌^◌}
 use native.Mathlib.Omega.{arith}
-use lib.ListN.{get_or, drop, take}
+use lib.ListN.{length, get_or, take}
+use lib.Seq.{take-length}
 use Rattle.convolution.specs.Coder.{low_bits, bits_of}
 use Rattle.convolution.proofs.Turning.{window_small, window_above, window-below}
 use Rattle.convolution.proofs.turns.window_of.Goals as goal
 
-pub loop-k-init : goal.loop-k-init
-loop-k-init c = (omega arith, omega arith, refl)
+pub loop-octet-init : goal.loop-octet-init
+loop-octet-init c = (omega (arith, c.from-window.ensures), refl)
 
 pub overflow_mul-window : goal.overflow_mul-window
 overflow_mul-window c =
-    let at = c.loop-k in
-    omega (arith, window_small at.window at.k (omega arith) (subst (λ (r : ℕ). r < 64) (sym at.invariant.1) c.requires.0))
+    let at = c.loop-octet in
+    omega (arith, window_small at.window at.octet-index (omega arith) (subst (λ (r : ℕ). r < 64) (sym at.invariant.0) c.requires.0))
 
-pub overflow_cast-window-in-loop-k : goal.overflow_cast-window-in-loop-k
-overflow_cast-window-in-loop-k c = omega (arith, c.type_inv.octets (c.args.at + c.loop-k.k))
+pub overflow_add-window : goal.overflow_add-window
+overflow_add-window c =
+    let at = c.loop-octet in
+    omega (arith, window_small at.window at.octet-index (omega arith) (subst (λ (r : ℕ). r < 64) (sym at.invariant.0) c.requires.0), c.type_inv.octets at.octet-index)
 
-pub overflow_add-window-in-loop-k : goal.overflow_add-window-in-loop-k
-overflow_add-window-in-loop-k c =
-    let at = c.loop-k in
-    omega (arith, window_small at.window at.k (omega arith) (subst (λ (r : ℕ). r < 64) (sym at.invariant.1) c.requires.0), c.type_inv.octets (c.args.at + at.k))
-
-pub loop-k-preserved : goal.loop-k-preserved
-loop-k-preserved c =
-    let at = c.loop-k in
+pub loop-octet-preserved : goal.loop-octet-preserved
+loop-octet-preserved c =
+    let at = c.loop-octet in
     let octets = c.args.octets.now in
-    let octet = get_or octets (c.args.at + at.k) 0 in
-    let small : octet < 256 = omega (arith, c.type_inv.octets (c.args.at + at.k)) in (
-      omega arith,
-      window_above octets c.args.at at.k at.window octet (omega arith) small refl ∙ at.invariant.1,
-      window-below octets c.args.at at.k at.window octet (omega arith) small refl at.invariant.2,
+    let small : c.from.result < 256 = omega (arith, c.type_inv.octets at.octet-index) in (
+      window_above octets at.octet-index at.window c.from.result c.loop-octet-test.true small c.from.ensures ∙ at.invariant.0,
+      window-below octets at.octet-index at.window c.from.result c.loop-octet-test.true small c.from.ensures at.invariant.1,
     )
 
 pub returns : goal.returns
 returns c =
-    let at = c.loop-k in
-    let all : at.k ≡ c.args.n = omega arith in
-    subst (λ (n : ℕ). (at.window / 2 ^ (8 * n) ≡ c.args.register) × (low_bits (8 * n) at.window ≡ bits_of (take n (drop c.args.at c.args.octets.now)))) all (at.invariant.1, at.invariant.2)
+    let at = c.loop-octet in
+    let all = take-length c.args.octets.now in
+    let end : at.octet-index ≡ length c.args.octets.now = omega arith in
+    rw (← end) (at.invariant.0, at.invariant.1 ∙ ap (λ (n : ℕ). bits_of (take n c.args.octets.now)) end ∙ ap bits_of all)

@@ -8,8 +8,8 @@ returns-then-holds-eq0 c = behind_none c.args.held c.args.holds c.args.symbols c
 
 pub overflow_add-result : goal.overflow_add-result
 overflow_add-result c =
-    omega (arith, behind_fits c.args.held c.args.holds c.args.symbols c.args.n c.requires.0 c.requires.1 c.requires.2 c.requires.3)
+    rw c.from.ensures (omega (arith, behind_fits c.args.held c.args.holds c.args.symbols c.args.n c.requires.0 c.requires.1 c.requires.2 c.requires.3))
 
 pub returns : goal.returns
 returns c =
-    behind_held c.args.held c.args.holds c.args.symbols c.args.n c.requires.0 c.requires.1 c.requires.2 c.requires.3
+    rw c.from.ensures (behind_held c.args.held c.args.holds c.args.symbols c.args.n c.requires.0 c.requires.1 c.requires.2 c.requires.3)

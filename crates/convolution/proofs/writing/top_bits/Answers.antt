@@ -12,4 +12,4 @@ returns c =
     let n = c.args.n in
     let all : n + (8 - n) ≡ 8 = omega arith in
     let small : c.args.octet < 2 ^ (n + (8 - n)) = rw all (omega arith) in
-    (top_low n c.args.octet (omega arith), lt_of_lt_of_le (shr_lt n (8 - n) small) (pow_mono {i = n} {j = 7} (omega arith)))
+    rw c.from.ensures (top_low n c.args.octet (omega arith), lt_of_lt_of_le (shr_lt n (8 - n) small) (pow_mono {i = n} {j = 7} (omega arith)))

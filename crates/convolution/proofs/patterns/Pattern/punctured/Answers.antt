@@ -6,23 +6,23 @@ use native.Mathlib.Omega.{arith}
 use Rattle.convolution.specs.Coder.{low_bits}
 use Rattle.refusals.specs.Sizes.{period}
 use Rattle.convolution.proofs.Puncturing.{begun_turn, begun_ahead, some_period, starts, starts_ahead, ends_place, ends_small, second_none, ahead_small}
-use Rattle.convolution.proofs.picks.punctured.Goals as goal
+use Rattle.convolution.proofs.patterns.Pattern.punctured.Goals as goal
 
 pub loop-s-init : goal.loop-s-init
 loop-s-init c =
     let s = c.args.state in
-    let a = c.ahead_of.result in (
+    let a = c.to_period.result in (
       omega arith,
-      subst (λ (n : ℕ). n < c.args.period) (sym c.ahead_of.ensures) (ahead_small c.args.period s.place c.requires.1),
-      omega (arith, c.requires.2),
-      ap (λ (l : List ℕ). low_bits s.holds s.held ++ l) (starts c.args.rate c.args.period c.args.c1.now c.requires.0 s.place c.args.first c.requires.1 c.args.second c.merged-both.result a c.merged-both.ensures c.ahead_of.ensures),
-      starts_ahead c.args.rate c.args.period c.args.c1.now c.requires.0 s.place c.args.first c.requires.1 a c.ahead_of.ensures,
+      subst (λ (n : ℕ). n < c.args.self.now.period) (sym c.to_period.ensures) (ahead_small c.args.self.now.period s.place c.requires.0),
+      omega (arith, c.requires.1),
+      ap (λ (l : List ℕ). low_bits s.holds s.held ++ l) (starts c.args.self.now.rate c.args.self.now.period c.args.self.now.c1 c.args.self.now.rows s.place c.args.first c.requires.0 c.args.second c.merged-both.result a c.merged-both.ensures c.to_period.ensures),
+      starts_ahead c.args.self.now.rate c.args.self.now.period c.args.self.now.c1 c.args.self.now.rows s.place c.args.first c.requires.0 a c.to_period.ensures,
     )
 
 pub period_begun-s-requires : goal.period_begun-s-requires
 period_begun-s-requires c =
     let i = c.loop-s.invariant in
-    (some_period c.args.rate c.args.period c.args.c1.now c.requires.0, c.loop-s-test.true, i.0, omega (arith, i.2))
+    (some_period c.args.self.now.rate c.args.self.now.period c.args.self.now.c1 c.args.self.now.rows, c.loop-s-test.true, i.0, omega (arith, i.2))
 
 pub loop-s-smaller : goal.loop-s-smaller
 loop-s-smaller c = omega (arith, c.period_begun-s.ensures.left)
@@ -32,17 +32,17 @@ loop-s-preserved c =
     let i = c.loop-s.invariant in
     let s = c.loop-s.s in
     let begun = c.period_begun-s.ensures in
-    let period = c.args.period in
+    let period = c.args.self.now.period in
     let both = c.merged-both.result in (
       omega (arith, begun.left, i.0),
-      omega (arith, begun.ahead, some_period c.args.rate c.args.period c.args.c1.now c.requires.0),
+      omega (arith, begun.ahead, some_period c.args.self.now.rate c.args.self.now.period c.args.self.now.c1 c.args.self.now.rows),
       omega (arith, begun.left, begun.holds, i.2),
       begun_turn period s c.period_begun-s.result both c.args.second begun ∙ i.3,
       begun_ahead period s c.period_begun-s.result both c.args.second begun ∙ i.4,
     )
 
-pub place_of-requires : goal.place_of-requires
-place_of-requires c = omega (arith, c.loop-s.invariant.1)
+pub to_period-requires-2 : goal.to_period-requires-2
+to_period-requires-2 c = omega (arith, c.loop-s.invariant.1)
 
 pub joined-requires : goal.joined-requires
 joined-requires c = c.loop-s.invariant.0
@@ -57,13 +57,13 @@ returns c =
     let st = c.args.state in
     let both = c.merged-both.result in
     let few : s.left ≤ s.ahead = omega (arith, c.loop-s-test.false) in
-    let place = c.place_of.ensures ∙ ends_place c.args.rate c.args.period c.args.c1.now c.requires.0 st.place c.args.first c.requires.1 s.ahead s.left few at.invariant.4 in
+    let place = c.to_period-2.ensures ∙ ends_place c.args.self.now.rate c.args.self.now.period c.args.self.now.c1 c.args.self.now.rows st.place c.args.first c.requires.0 s.ahead s.left few at.invariant.4 in
     record {
       symbols =
           c.joined.ensures s.holds (omega (arith, at.invariant.2))
-          ∙ ap (λ (l : List ℕ). low_bits s.holds s.held ++ l) (sym (second_none c.args.period s.ahead s.left both c.args.second few))
+          ∙ ap (λ (l : List ℕ). low_bits s.holds s.held ++ l) (sym (second_none c.args.self.now.period s.ahead s.left both c.args.second few))
           ∙ at.invariant.3;
       place = place;
-      small = subst (λ (n : ℕ). n < period c.args.rate) (sym place) (ends_small c.args.rate c.args.period c.args.c1.now c.requires.0 st.place c.args.first c.requires.1);
+      small = subst (λ (n : ℕ). n < period c.args.self.now.rate) (sym place) (ends_small c.args.self.now.rate c.args.self.now.period c.args.self.now.c1 c.args.self.now.rows st.place c.args.first c.requires.0);
       holds = omega (arith, at.invariant.2);
     }

@@ -1,9 +1,9 @@
--- `group_symbols` meets its contract, which says the same.
+-- `symbols` meets its contract, which says the same.
 use mathlib.Core.Path.{ap₂}
 use Prim.Native.Nat.{ℕ, ◌*◌, ◌%◌, ◌^◌}
 use lib.Bits.{bit_xor}
 use Rattle.convolution.specs.GroupWorking.{symbols_by}
-use Rattle.convolution.proofs.groups.group_symbols.Goals as goal
+use Rattle.convolution.proofs.Group.symbols.Goals as goal
 
 pub returns : goal.returns
 unfolding symbols_by
