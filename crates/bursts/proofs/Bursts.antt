@@ -11,7 +11,7 @@ use lib.ListN.{length, get_or, replicate}
 use Rattle.octets.proofs.Bits.{bit_of_octet, same_bits}
 use Rattle.refusals.specs.Sizes.{depths}
 use Rattle.refusals.specs.Numbers.{verdict_number}
-use Rattle.refusals.specs.declared.Verdict.{Verdict}
+use Rattle.refusals.specs.Numbers.{Verdict}
 use Rattle.codewords.specs.Words.{Octets, differing}
 use Rattle.codewords.proofs.LineWords.{differing-front, differing-run}
 use Rattle.codewords.proofs.WordValues.{octet_at}

@@ -16,8 +16,8 @@ use Rattle.refusals.specs.Order.{FirstOf}
 use Rattle.refusals.specs.Sizes.{information, block_length}
 use Rattle.refusals.specs.Numbers.{verdict_number}
 use Rattle.refusals.specs.Calls.{strength, depth, fill}
-use Rattle.refusals.specs.declared.Verdict.{Verdict}
-use Rattle.refusals.specs.declared.Verdict.TheVariants.{Accepted}
+use Rattle.refusals.specs.Numbers.{Verdict}
+use Rattle.std.specs.Prelude.{Ok, Err}
 use Rattle.codewords.specs.Words.{Good, differing, with_fill}
 use Rattle.codewords.proofs.WordValues.{changed-octets}
 use Rattle.codewords.proofs.LineWords.{differing-front, differing-first}
@@ -139,11 +139,11 @@ any_frame_lost e i q frame before block v O accepted = (
 
 -- For every legal E, I and Q some frame is lost to a burst of E x I + 1 sent symbols, and of 8 x (E x I - 1) + 2 bits.
 pub longer_burst_lost : (e i q : ℕ) → FirstOf (strength e ∷ depth i ∷ fill e q ∷ []) 0
-    → (frame block received : List ℕ) × EncodeOutcome e i q frame block Accepted block × LongerBurst e i q frame block received
+    → (frame block received : List ℕ) × EncodeOutcome e i q frame block (Ok tt) block × LongerBurst e i q frame block received
 longer_burst_lost e i q legal = (zero_frame e i q, zero_block e i q, lost.0, encoded, lost.1)
   where
-    encoded : EncodeOutcome e i q (zero_frame e i q) (zero_block e i q) Accepted (zero_block e i q)
+    encoded : EncodeOutcome e i q (zero_frame e i q) (zero_block e i q) (Ok tt) (zero_block e i q)
     encoded = zeros_encoded e i q legal (zero_block e i q) (length-replicate (block_length i q) 0)
 
     lost : (received : List ℕ) × LongerBurst e i q (zero_frame e i q) (zero_block e i q) received
-    lost = any_frame_lost e i q (zero_frame e i q) (zero_block e i q) (zero_block e i q) Accepted encoded refl
+    lost = any_frame_lost e i q (zero_frame e i q) (zero_block e i q) (zero_block e i q) (Ok tt) encoded refl

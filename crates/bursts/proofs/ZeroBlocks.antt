@@ -8,7 +8,7 @@ use lib.Seq.{take_at}
 use Rattle.refusals.specs.Order.{FirstOf}
 use Rattle.refusals.specs.Sizes.{information, frame_length, block_length}
 use Rattle.refusals.specs.Calls.{strength, depth, fill, encode_order}
-use Rattle.refusals.specs.declared.Verdict.TheVariants.{Accepted}
+use Rattle.std.specs.Prelude.{Ok, Err}
 use Rattle.refusals.proofs.Orders.{Clear, accepted_clear, clear_accepted}
 use Rattle.refusals.proofs.Legal.{LegalWords, legal_words, word_numbers}
 use Rattle.codewords.specs.Words.{Codeword, with_fill}
@@ -48,7 +48,7 @@ module _ (e i q : ℕ) where
 
   -- So encode permits it for that frame, whatever the block held.
   pub zeros_encoded : FirstOf (strength e ∷ depth i ∷ fill e q ∷ []) 0 → (before : List ℕ) → length before ≡ block_length i q
-      → EncodeOutcome e i q zero_frame before Accepted zero_block
+      → EncodeOutcome e i q zero_frame before (Ok tt) zero_block
   zeros_encoded legal before size =
       record {
         number = clear_accepted (encode_order e i q (length zero_frame) (length before))

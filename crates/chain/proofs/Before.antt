@@ -1,4 +1,6 @@
 -- Receive as it was before the complement was known, and that with a true marker every answer of its stands.
+use Rattle.std.specs.Prelude.{Ok, Err}
+use Rattle.chain.specs.Outcome.{Received, Delivered}
 use mathlib.Core.Path.{◌≡◌, refl, sym, ap, ◌∙◌, subst}
 use mathlib.Core.Bool.{Bool, false}
 use mathlib.Core.Logic.{◌≢◌}
@@ -16,8 +18,6 @@ use Rattle.marker.specs.Place.{form_at, fewest_wrong}
 use Rattle.marker.proofs.Before.{wrong_bits_before, fewest_as_before}
 use Rattle.reed_solomon.specs.Outcome.{Lost}
 use Rattle.chain.specs.declared.Stage.TheVariants.{Parameters, Marker, Word}
-use Rattle.chain.specs.declared.Received.{Received}
-use Rattle.chain.specs.declared.Received.TheVariants.{Delivered, Refused}
 use Rattle.chain.specs.Outcome.{randomised_if, complemented, opened, block_in, said_inverted, received_number, StageRefuses, AsDecode, ReceiveOutcome}
 
 -- ---- the definitions of before
@@ -26,10 +26,10 @@ abbrev pub opened_before : Bool → List ℕ → List ℕ
 opened_before flag marked = randomised_if flag (drop 4 marked)
 
 abbrev pub StageRefusesBefore : ℕ → ℕ → ℕ → ℕ → ℕ → List ℕ → List ℕ → Received → Type 0
-StageRefusesBefore e i q s t marked before Delivered = Unit
-StageRefusesBefore e i q s t marked before (Refused (Parameters p)) = FirstOf (receive_parameters e i q s t (length marked) (length before)) (parameter_number p)
-StageRefusesBefore e i q s t marked before (Refused (Marker r)) = r ≡ WrongBits (wrong_bits_before marked 0)
-StageRefusesBefore e i q s t marked before (Refused (Word r)) = (w : ℕ) × (r ≡ NoCodeword w)
+StageRefusesBefore e i q s t marked before (Ok done) = Unit
+StageRefusesBefore e i q s t marked before (Err (Parameters p)) = FirstOf (receive_parameters e i q s t (length marked) (length before)) (parameter_number p)
+StageRefusesBefore e i q s t marked before (Err (Marker r)) = r ≡ WrongBits (wrong_bits_before marked 0)
+StageRefusesBefore e i q s t marked before (Err (Word r)) = (w : ℕ) × (r ≡ NoCodeword w)
 
 pub record ReceiveBefore (e i q s t : ℕ) (flag : Bool) (marked before : List ℕ) (answer : Received) (counts : List ℕ) (total : ℕ) (after : List ℕ) : Type 0 where
   pub number : FirstOf (receive_order e i q s t (length marked) (length before) (wrong_bits_before marked 0) ((w : ℕ) × (w < i) × Lost e i q s (opened_before flag marked) w))
@@ -49,20 +49,20 @@ module _ (e i q s t : ℕ) (flag : Bool) (marked before : List ℕ) (true : form
   same_block = ap (λ (form : Form). opened form flag marked) true
 
   stage_as_before : (answer : Received) → StageRefuses e i q s t marked before answer → StageRefusesBefore e i q s t marked before answer
-  stage_as_before Delivered x = x
-  stage_as_before (Refused (Parameters p)) x = x
-  stage_as_before (Refused (Marker r)) x = x ∙ ap WrongBits same-wrong
-  stage_as_before (Refused (Word r)) x = x
+  stage_as_before (Ok done) x = x
+  stage_as_before (Err (Parameters p)) x = x
+  stage_as_before (Err (Marker r)) x = x ∙ ap WrongBits same-wrong
+  stage_as_before (Err (Word r)) x = x
 
   stage_again : (answer : Received) → StageRefusesBefore e i q s t marked before answer → StageRefuses e i q s t marked before answer
-  stage_again Delivered x = x
-  stage_again (Refused (Parameters p)) x = x
-  stage_again (Refused (Marker r)) x = x ∙ ap WrongBits (sym same-wrong)
-  stage_again (Refused (Word r)) x = x
+  stage_again (Ok done) x = x
+  stage_again (Err (Parameters p)) x = x
+  stage_again (Err (Marker r)) x = x ∙ ap WrongBits (sym same-wrong)
+  stage_again (Err (Word r)) x = x
 
   not_said : (answer : Received) → said_inverted answer (complemented (form_at marked 0)) ≡ false
-  not_said Delivered = ap complemented true
-  not_said (Refused stage) = refl
+  not_said (Ok done) = ap complemented true
+  not_said (Err stage) = refl
 
   -- With a true marker, one that is nearer to it than to its complement, receive answers what it answered before, and says that nothing was inverted; and what
   -- it answered before it answers.

@@ -1,5 +1,8 @@
 -- The burst figure through receive: a marked block whose block part was altered only within the figure, and its marker within the tolerance, is received as the frame.
 -- `complement_received` says the same of that block with all bits inverted.
+use Rattle.std.specs.Prelude.{Ok, Err}
+use Rattle.refusals.specs.Numbers.{Verdict}
+use Rattle.chain.specs.Outcome.{Received, Delivered}
 use mathlib.Core.Path.{◌≡◌, refl, sym, ap, ap₂, ◌∙◌, subst}
 use mathlib.Core.Bool.{Bool, true, false}
 use mathlib.Core.Logic.{◌↔◌}
@@ -9,8 +12,6 @@ use native.Mathlib.Nat.{mul-le-mul}
 use native.Mathlib.Omega.{arith}
 use lib.ListN.{length, drop, get_or, length-drop}
 use Rattle.refusals.specs.Numbers.{verdict_number}
-use Rattle.refusals.specs.declared.Verdict.{Verdict}
-use Rattle.refusals.specs.declared.Verdict.TheVariants.{Accepted}
 use Rattle.codewords.specs.Words.{Octets, differing}
 use Rattle.marker.specs.declared.Form.{Form}
 use Rattle.marker.specs.declared.Form.TheVariants.{True}
@@ -22,8 +23,6 @@ use Rattle.bursts.specs.Bursts.{burst_symbols, burst_bits, SymbolBurst, BitBurst
 use Rattle.encoding.proofs.Interleaving.{words_alike}
 use Rattle.encoding.proofs.CodedBlocks.{EncodeLegal, outcome_legal, coded-octets}
 use Rattle.bursts.proofs.Bursts.{word_differs, bits_in_symbols, corrected}
-use Rattle.chain.specs.declared.Received.{Received}
-use Rattle.chain.specs.declared.Received.TheVariants.{Delivered}
 use Rattle.chain.specs.Outcome.{randomised_if, opened, block_in, Transmitted, TransmitOutcome, ReceiveOutcome}
 use Rattle.chain.proofs.Opening.{marker-true, randomised-octets}
 use Rattle.chain.proofs.Settled.{block_size}
@@ -48,7 +47,7 @@ module _ (e i q : ℕ) (flag : Bool) (frame before : List ℕ) (v : Verdict) (ma
   long = block_size e i q flag frame before marked T O.size
 
   legal : EncodeLegal e i q (length frame) (length T.block)
-  legal = outcome_legal e i q frame T.block T.block Accepted (sent_encoded e i q flag frame before v marked O accepted) refl
+  legal = outcome_legal e i q frame T.block T.block (Ok tt) (sent_encoded e i q flag frame before v marked O accepted) refl
 
   -- the block part is not empty
   positive : 1 ≤ length T.block

@@ -1,4 +1,6 @@
 -- A marked block with all bits inverted is received as the block itself is, and said to be inverted where that one is not.
+use Rattle.std.specs.Prelude.{Ok, Err}
+use Rattle.chain.specs.Outcome.{Received, Delivered}
 use mathlib.Core.Path.{◌≡◌, refl, sym, ap, ◌∙◌, subst}
 use mathlib.Core.Bool.{Bool, not}
 use mathlib.Core.Logic.{inl, inr}
@@ -20,8 +22,6 @@ use Rattle.marker.specs.Place.{form_at, fewest_wrong, Place}
 use Rattle.marker.proofs.Complements.{other_form, fewest_inverted, form_inverted}
 use Rattle.reed_solomon.proofs.Deliverable.{SomeLost}
 use Rattle.chain.specs.declared.Stage.TheVariants.{Parameters, Marker, Word}
-use Rattle.chain.specs.declared.Received.{Received}
-use Rattle.chain.specs.declared.Received.TheVariants.{Delivered, Refused}
 use Rattle.chain.specs.Outcome.{randomised_if, complemented, opened, block_in, said_inverted, received_number, StageRefuses, AsDecode, ReceiveOutcome}
 use Rattle.chain.proofs.Receptions.{ReceiveLegal, receive_legal}
 use Rattle.chain.proofs.Stages.{Without, past_front, Passed, after}
@@ -83,10 +83,10 @@ module _ (e i q s t : ℕ) (flag : Bool) (marked before : List ℕ) (small : (j 
 
     stage_kept : (a : Received) → FirstOf (receive_order e i q s t (length marked) (length before) (fewest_wrong marked 0) (SomeLost e i q s (block_in flag marked))) (received_number a)
         → StageRefuses e i q s t marked before a → StageRefuses e i q s t (inverted marked) before a
-    stage_kept Delivered first x = tt
-    stage_kept (Refused (Parameters p)) first x = rw same_size x
-    stage_kept (Refused (Word r)) first x = x
-    stage_kept (Refused (Marker r)) first x = x ∙ ap WrongBits (sym (same_fewest (past_front (receive_parameters e i q s t (length marked) (length before)) 9 others nine).0))
+    stage_kept (Ok done) first x = tt
+    stage_kept (Err (Parameters p)) first x = rw same_size x
+    stage_kept (Err (Word r)) first x = x
+    stage_kept (Err (Marker r)) first x = x ∙ ap WrongBits (sym (same_fewest (past_front (receive_parameters e i q s t (length marked) (length before)) 9 others nine).0))
       where
         nine : FirstOf (receive_order e i q s t (length marked) (length before) (fewest_wrong marked 0) (SomeLost e i q s (block_in flag marked))) 9
         nine = rw (ap marker_number x) at first
@@ -96,10 +96,10 @@ module _ (e i q s t : ℕ) (flag : Bool) (marked before : List ℕ) (small : (j 
 
     said_kept : (a : Received) → FirstOf (receive_order e i q s t (length marked) (length before) (fewest_wrong marked 0) (SomeLost e i q s (block_in flag marked))) (received_number a)
         → turned ≡ said_inverted a (complemented (form_at marked 0)) → said_inverted a (not turned) ≡ said_inverted a (complemented (form_at (inverted marked) 0))
-    said_kept Delivered first x =
+    said_kept (Ok done) first x =
         let past : Passed e i q s t flag marked before 0 first = after e i q s t flag marked before 0 first (inl (omega arith)) in
         ap not x ∙ sym (other_form_lem past.0 past.1).0
-    said_kept (Refused stage) first x = refl
+    said_kept (Err stage) first x = refl
 
     -- What receive may answer for a marked block it may answer for the inverted one, with the flag turned where it delivers.
     complement_permitted : ReceiveOutcome e i q s t flag (inverted marked) before answer counts total (said_inverted answer (not turned)) frame

@@ -1,4 +1,9 @@
 -- The conditions of acceptance for the whole: what receive makes of a transmitted block, and condition 1 of all thirteen calls.
+use Rattle.std.specs.Prelude.{Ok, Err}
+use Rattle.refusals.specs.Numbers.{Verdict}
+use Rattle.reed_solomon.specs.Outcome.{Decoded}
+use Rattle.chain.specs.Outcome.{Received, Delivered}
+use Rattle.marker.specs.Outcome.{TestAnswer}
 use mathlib.Core.Path.{◌≡◌, refl, sym, ap, ap₂, ◌∙◌, subst}
 use mathlib.Core.Bool.{Bool, true, false, not}
 use mathlib.Core.Logic.{◌≢◌}
@@ -11,8 +16,6 @@ use lib.Seq.{take_at, ext_get_or}
 use Rattle.refusals.specs.Order.{Check, FirstOf}
 use Rattle.refusals.specs.Numbers.{verdict_number}
 use Rattle.refusals.specs.Calls.{encode_order, portion_order, close_order, decode_order, salvage_order, randomise_order, convolve_order, coder_close_order, likeliest_order, marker_order, search_order, transmit_order, receive_parameters, receive_order}
-use Rattle.refusals.specs.declared.Verdict.{Verdict}
-use Rattle.refusals.specs.declared.Verdict.TheVariants.{Accepted}
 use Rattle.refusals.proofs.Orders.{Clear, clear_accepted}
 use Rattle.codewords.specs.Words.{Octets, Good, differing}
 use Rattle.codewords.proofs.WordValues.{octet_at, octets-++}
@@ -22,7 +25,6 @@ use Rattle.marker.specs.declared.Form.{Form}
 use Rattle.marker.specs.declared.Form.TheVariants.{True, Complement}
 use Rattle.marker.specs.Place.{marker, form_at, fewest_wrong}
 use Rattle.marker.specs.Outcome.{tested_number, searched_number, TestOutcome, SearchOutcome}
-use Rattle.marker.specs.declared.Tested.{Tested}
 use Rattle.marker.specs.declared.Searched.{Searched}
 use Rattle.randomiser.specs.Outcome.{RandomiseOutcome}
 use Rattle.convolution.specs.Outcome as coder
@@ -31,8 +33,6 @@ use Rattle.convolution.specs.declared.Ran.{Ran}
 use Rattle.convolution.specs.declared.Convolved.{Convolved}
 use Rattle.viterbi.specs.Outcome.{sought_number, LikeliestOutcome}
 use Rattle.viterbi.specs.declared.Sought.{Sought}
-use Rattle.reed_solomon.specs.declared.Decoded.{Decoded}
-use Rattle.reed_solomon.specs.declared.Decoded.TheVariants as decoded
 use Rattle.encoding.specs.Blocks.{word_of, sent_from, sum}
 use Rattle.frame_portions.specs.declared.Progress.{Progress}
 use Rattle.frame_portions.specs.Portions.{PortionOutcome, CloseOutcome}
@@ -42,8 +42,6 @@ use Rattle.reed_solomon.specs.Salvaging.{SalvageOutcome}
 use Rattle.encoding.proofs.CodedBlocks.{outcome_legal, coded-octets}
 use Rattle.reed_solomon.proofs.Deliverable.{SomeLost, Passed, Order, all_found}
 use Rattle.reed_solomon.proofs.Conditions.{condition_two, condition_three_exactly_if}
-use Rattle.chain.specs.declared.Received.{Received}
-use Rattle.chain.specs.declared.Received.TheVariants.{Delivered}
 use Rattle.chain.specs.Outcome.{randomised_if, inverted_if, complemented, block_in, said_inverted, received_number, word_stage, Transmitted, TransmitOutcome, AsDecode, ReceiveOutcome}
 use Rattle.chain.proofs.Opening.{randomised-octets, opened-length, opened-sent, marker-true}
 use Rattle.chain.proofs.Transmissions.{TransmitLegal, transmit_clear, transmit_legal, block_passes}
@@ -96,7 +94,7 @@ module _ (e i q : ℕ) (flag : Bool) (frame before : List ℕ) (v : Verdict) (ma
   size = block_size e i q flag frame before marked T O.size
 
   -- the block that was sent is an outcome of encode, and opening gives it back
-  pub sent_encoded : EncodeOutcome e i q frame block Accepted block
+  pub sent_encoded : EncodeOutcome e i q frame block (Ok tt) block
   sent_encoded =
       record {
         number = block_passes e i q (length frame) (length before) (length block) size passes;
@@ -144,10 +142,10 @@ module _ (e i q : ℕ) (flag : Bool) (frame before : List ℕ) (v : Verdict) (ma
       length_is : length (block_in flag received) ≡ length block
       length_is = omega (arith, opened-length (complemented (form_at received 0)) flag (drop 4 received), length-drop 4 received, same, O.size, size)
 
-      two : (A.answered ≡ decoded.Delivered) × (after ≡ frame) × ((w : ℕ) → w < i → get_or counts w 0 ≡ differing (word_of i q block w) (word_of i q (block_in flag received) w))
+      two : (A.answered ≡ (Ok tt)) × (after ≡ frame) × ((w : ℕ) → w < i → get_or counts w 0 ≡ differing (word_of i q block w) (word_of i q (block_in flag received) w))
           × ((w : ℕ) → i ≤ w → get_or counts w 0 ≡ 0) × (total ≡ sum counts)
       two =
-          condition_two e i q frame block block Accepted sent_encoded refl (block_in flag received) length_is
+          condition_two e i q frame block block (Ok tt) sent_encoded refl (block_in flag received) length_is
           (λ w h. subst (λ (list : List ℕ). differing (word_of i q list w) (word_of i q (block_in flag received) w) ≤ e) opened_is (near w h)) out room A.answered counts total after A.outcome
 
   -- received as it was sent
@@ -181,10 +179,10 @@ module _ (e i q : ℕ) (flag : Bool) (frame before : List ℕ) (v : Verdict) (ma
       zero =
           (condition_three_exactly_if e i q s block out (decodes s t small few marked out refl room) A.answered counts total after D).1 (λ w h. (word_of i q block w, itself w h))
 
-      two : (A.answered ≡ decoded.Delivered) × (after ≡ frame) × ((w : ℕ) → w < i → get_or counts w 0 ≡ differing (word_of i q block w) (word_of i q block w))
+      two : (A.answered ≡ (Ok tt)) × (after ≡ frame) × ((w : ℕ) → w < i → get_or counts w 0 ≡ differing (word_of i q block w) (word_of i q block w))
           × ((w : ℕ) → i ≤ w → get_or counts w 0 ≡ 0) × (total ≡ sum counts)
       two =
-          condition_two e i q frame block block Accepted sent_encoded refl block refl (λ w h. omega (arith, differing_self (word_of i q block w))) out room A.answered counts total after
+          condition_two e i q frame block block (Ok tt) sent_encoded refl block refl (λ w h. omega (arith, differing_self (word_of i q block w))) out room A.answered counts total after
           (widened e i q s e block out A.answered counts total after small (decodes e t (omega arith) few marked out refl room) zero D)
 
       delivers : answer ≡ Delivered
@@ -209,7 +207,7 @@ module _ (e i q : ℕ) (flag : Bool) (frame before : List ℕ) (v : Verdict) (ma
       following : Octets (randomised_if flag block)
       following =
           randomised-octets flag block
-          (coded-octets e i q frame block (outcome_legal e i q frame block block Accepted sent_encoded refl) T.coded)
+          (coded-octets e i q frame block (outcome_legal e i q frame block block (Ok tt) sent_encoded refl) T.coded)
 
   -- Receive undoes transmit in both forms, as it was sent or with all bits inverted, with the same flag and parameters and any legal tolerance and allowance:
   -- the frame, no symbol differs, and it says which form it was.
@@ -257,7 +255,7 @@ pub record ConditionOne : Type 0 where
       → FirstAndKept (coder_close_order rate state.register state.place state.holds (length before)) (coder.convolved_number answer) (after ≡ before)
   pub likeliest : (register : ℕ) (received before : List ℕ) (answer : Sought) (after : List ℕ) → LikeliestOutcome register received before answer after
       → FirstAndKept (likeliest_order register (length received) (length before)) (sought_number answer) (after ≡ before)
-  pub test : (t : ℕ) (octets : List ℕ) (answer : Tested) → TestOutcome t octets answer
+  pub test : (t : ℕ) (octets : List ℕ) (answer : TestAnswer) → TestOutcome t octets answer
       → FirstAndKept (marker_order t (length octets) (fewest_wrong octets 0)) (tested_number answer) Unit
   pub search : (t : ℕ) (stream : List ℕ) (start budget : ℕ) (answer : Searched) → SearchOutcome t stream start budget answer
       → FirstAndKept (search_order t (length stream) start) (searched_number answer) Unit

@@ -1,5 +1,7 @@
 -- A block of full words with all bits inverted is the coded block of the frame with all bits inverted, and so it is after randomising and transmitting. So receive
 -- cannot see that marker and block came in different forms.
+use Rattle.refusals.specs.Numbers.{Verdict}
+use Rattle.chain.specs.Outcome.{Received, Delivered}
 use mathlib.Core.Path.{◌≡◌, refl, sym, ap, ap₂, ◌∙◌, subst}
 use mathlib.Core.Bool.{Bool, true, false, not}
 use mathlib.Core.List.{List, [], ◌∷◌, ◌++◌}
@@ -12,7 +14,6 @@ use Rattle.octets.proofs.Inversion.{inverted-length, inverted-take, inverted-at,
 use Rattle.refusals.specs.Order.{FirstOf}
 use Rattle.refusals.specs.Numbers.{verdict_number}
 use Rattle.refusals.specs.Calls.{transmit_order}
-use Rattle.refusals.specs.declared.Verdict.{Verdict}
 use Rattle.codewords.specs.Words.{Octets, Codeword}
 use Rattle.codewords.proofs.OnesWords.{inverted-sum, inverted-codeword}
 use Rattle.marker.specs.declared.Form.{Form}
@@ -24,8 +25,6 @@ use Rattle.encoding.specs.Blocks.{word_of}
 use Rattle.encoding.specs.Outcome.{Coded}
 use Rattle.encoding.proofs.Interleaving.{place-below, sent-length, sent-at, sent_is}
 use Rattle.encoding.proofs.CodedBlocks.{EncodeLegal, coded-octets}
-use Rattle.chain.specs.declared.Received.{Received}
-use Rattle.chain.specs.declared.Received.TheVariants.{Delivered}
 use Rattle.chain.specs.Outcome.{randomised_if, inverted_if, complemented, Transmitted, TransmitOutcome, ReceiveOutcome}
 use Rattle.chain.proofs.Opening.{randomised-length}
 use Rattle.chain.proofs.Transmissions.{TransmitLegal, transmit_legal}

@@ -1,4 +1,5 @@
 -- The block in a marked block: randomised twice it is as it was, and the marker in front of it is the true one, with no wrong bits.
+use Rattle.refusals.specs.Numbers.{Verdict}
 use mathlib.Core.Path.{◌≡◌, refl, sym, ◌∙◌, subst}
 use mathlib.Core.Bool.{Bool, true, false}
 use mathlib.Core.Logic.{inr}
@@ -10,7 +11,6 @@ use lib.Seq.{get_or-take}
 use Rattle.refusals.specs.Order.{FirstOf}
 use Rattle.refusals.specs.Calls.{randomise_order}
 use Rattle.refusals.specs.Numbers.{verdict_number}
-use Rattle.refusals.specs.declared.Verdict.{Verdict}
 use Rattle.refusals.proofs.Orders.{first_unique}
 use Rattle.octets.specs.Bits.{bit_at}
 use Rattle.marker.specs.declared.Form.{Form}

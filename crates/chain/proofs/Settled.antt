@@ -1,4 +1,7 @@
 -- transmit and receive are settled: two outcomes that a contract permits for the same inputs are equal, answer, report and buffers.
+use Rattle.std.specs.Prelude.{Ok, Err}
+use Rattle.refusals.specs.Numbers.{Verdict}
+use Rattle.chain.specs.Outcome.{Received}
 use mathlib.Core.Path.{◌≡◌, refl, sym, ap, ◌∙◌, subst}
 use mathlib.Core.Bool.{Bool}
 use mathlib.Core.Logic.{◌≢◌, ◌⊎◌, inl, inr}
@@ -11,7 +14,6 @@ use Rattle.refusals.specs.Order.{FirstOf}
 use Rattle.refusals.specs.Numbers.{verdict_number, marker_number, word_number}
 use Rattle.refusals.specs.Calls.{transmit_order, receive_order}
 use Rattle.refusals.specs.declared.Parameter.{Parameter}
-use Rattle.refusals.specs.declared.Verdict.{Verdict}
 use Rattle.refusals.specs.declared.MarkerRefusal.{MarkerRefusal}
 use Rattle.refusals.proofs.Orders.{first_unique}
 use Rattle.refusals.proofs.Verdicts.{parameter_not_nine, parameter_not_ten}
@@ -22,8 +24,6 @@ use Rattle.encoding.proofs.Settled.{coded_unique}
 use Rattle.reed_solomon.proofs.Deliverable.{SomeLost}
 use Rattle.reed_solomon.proofs.DecodeSettled.{decode_settled}
 use Rattle.chain.specs.declared.Stage.TheVariants.{Parameters, Marker, Word}
-use Rattle.chain.specs.declared.Received.{Received}
-use Rattle.chain.specs.declared.Received.TheVariants.{Delivered, Refused}
 use Rattle.chain.specs.Outcome.{randomised_if, complemented, block_in, said_inverted, received_number, word_stage, Transmitted, TransmitOutcome, StageRefuses, AsDecode, ReceiveOutcome}
 use Rattle.chain.proofs.Opening.{randomised-length}
 use Rattle.chain.proofs.Transmissions.{block_passes}
@@ -82,16 +82,16 @@ module _ (e i q s t : ℕ) (flag : Bool) (marked before : List ℕ) where
 
   -- before the words the number and the stage give the answer
   same_refusal : (a b : Received) → Stage_of a → Stage_of b → received_number a ≡ received_number b → received_number a ≢ 0 → received_number a ≢ 10 → a ≡ b
-  same_refusal Delivered b x y n zero ten = absurd (zero refl)
-  same_refusal (Refused (Word r)) b x y n zero ten = absurd (ten (ap word_number x.1))
-  same_refusal (Refused (Parameters p)) Delivered x y n zero ten = absurd (zero n)
-  same_refusal (Refused (Parameters p)) (Refused (Parameters o)) x y n zero ten = ap (λ (u : Parameter). Refused (Parameters u)) (parameter_known p o n)
-  same_refusal (Refused (Parameters p)) (Refused (Marker r)) x y n zero ten = absurd (parameter_not_nine p (n ∙ ap marker_number y))
-  same_refusal (Refused (Parameters p)) (Refused (Word r)) x y n zero ten = absurd (parameter_not_ten p (n ∙ ap word_number y.1))
-  same_refusal (Refused (Marker r)) Delivered x y n zero ten = absurd (zero n)
-  same_refusal (Refused (Marker r)) (Refused (Parameters p)) x y n zero ten = absurd (parameter_not_nine p (sym n ∙ ap marker_number x))
-  same_refusal (Refused (Marker r)) (Refused (Marker o)) x y n zero ten = ap (λ (u : MarkerRefusal). Refused (Marker u)) (x ∙ sym y)
-  same_refusal (Refused (Marker r)) (Refused (Word o)) x y n zero ten = absurd (ten (n ∙ ap word_number y.1))
+  same_refusal (Ok done) b x y n zero ten = absurd (zero refl)
+  same_refusal (Err (Word r)) b x y n zero ten = absurd (ten (ap word_number x.1))
+  same_refusal (Err (Parameters p)) (Ok done) x y n zero ten = absurd (zero n)
+  same_refusal (Err (Parameters p)) (Err (Parameters o)) x y n zero ten = ap (λ (u : Parameter). Err (Parameters u)) (parameter_known p o n)
+  same_refusal (Err (Parameters p)) (Err (Marker r)) x y n zero ten = absurd (parameter_not_nine p (n ∙ ap marker_number y))
+  same_refusal (Err (Parameters p)) (Err (Word r)) x y n zero ten = absurd (parameter_not_ten p (n ∙ ap word_number y.1))
+  same_refusal (Err (Marker r)) (Ok done) x y n zero ten = absurd (zero n)
+  same_refusal (Err (Marker r)) (Err (Parameters p)) x y n zero ten = absurd (parameter_not_nine p (sym n ∙ ap marker_number x))
+  same_refusal (Err (Marker r)) (Err (Marker o)) x y n zero ten = ap (λ (u : MarkerRefusal). Err (Marker u)) (x ∙ sym y)
+  same_refusal (Err (Marker r)) (Err (Word o)) x y n zero ten = absurd (ten (n ∙ ap word_number y.1))
 
   module _ (a b : Received) (c d : List ℕ) (m n : ℕ) (x y : Bool) (f g : List ℕ) (A : ReceiveOutcome e i q s t flag marked before a c m x f)
       (B : ReceiveOutcome e i q s t flag marked before b d n y g) where

@@ -1,4 +1,7 @@
 -- How far receive came: which stage refuses with which number, and that an answer past the marker is decode's.
+use Rattle.std.specs.Prelude.{Ok, Err}
+use Rattle.reed_solomon.specs.Outcome.{Decoded}
+use Rattle.chain.specs.Outcome.{Received, Delivered}
 use mathlib.Core.Path.{◌≡◌, refl, sym, ap, ◌∙◌, subst}
 use mathlib.Core.Bool.{Bool}
 use mathlib.Core.Logic.{◌≢◌, ◌⊎◌, inl, inr}
@@ -14,13 +17,9 @@ use Rattle.refusals.specs.declared.WordRefusal.{WordRefusal}
 use Rattle.refusals.proofs.Orders.{Begins}
 use Rattle.refusals.proofs.Verdicts.{parameter_nonzero}
 use Rattle.marker.specs.Place.{fewest_wrong}
-use Rattle.reed_solomon.specs.declared.Decoded.{Decoded}
-use Rattle.reed_solomon.specs.declared.Decoded.TheVariants as decoded
 use Rattle.reed_solomon.specs.Outcome.{LowestLost, decoded_number, decoded_value}
 use Rattle.reed_solomon.proofs.Deliverable.{SomeLost}
 use Rattle.chain.specs.declared.Stage.TheVariants.{Parameters, Marker, Word}
-use Rattle.chain.specs.declared.Received.{Received}
-use Rattle.chain.specs.declared.Received.TheVariants.{Delivered, Refused}
 use Rattle.chain.specs.Outcome.{block_in, received_number, word_stage, AsDecode, ReceiveOutcome}
 
 -- No check of the list has the number n.
@@ -47,10 +46,10 @@ first_listed (check ∷ later) n z (inr p) = inr (first_listed later n z p.1)
 -- Parameters only with 1 to 6 and 8, here in the order of the checks; the marker only with 9 and its fewest wrong bits; a word only with 10,
 -- the lowest that is lost.
 abbrev pub StageNumbers : ℕ → ℕ → ℕ → ℕ → Bool → List ℕ → Received → Type 0
-StageNumbers e i q s flag marked Delivered = Unit
-StageNumbers e i q s flag marked (Refused (Parameters p)) = OneOf (1 ∷ 2 ∷ 3 ∷ 4 ∷ 8 ∷ 5 ∷ 6 ∷ []) (parameter_number p)
-StageNumbers e i q s flag marked (Refused (Marker r)) = (marker_number r ≡ 9) × (marker_value r ≡ fewest_wrong marked 0)
-StageNumbers e i q s flag marked (Refused (Word r)) = (word_number r ≡ 10) × LowestLost e i q s (block_in flag marked) (word_value r)
+StageNumbers e i q s flag marked (Ok done) = Unit
+StageNumbers e i q s flag marked (Err (Parameters p)) = OneOf (1 ∷ 2 ∷ 3 ∷ 4 ∷ 8 ∷ 5 ∷ 6 ∷ []) (parameter_number p)
+StageNumbers e i q s flag marked (Err (Marker r)) = (marker_number r ≡ 9) × (marker_value r ≡ fewest_wrong marked 0)
+StageNumbers e i q s flag marked (Err (Word r)) = (word_number r ≡ 10) × LowestLost e i q s (block_in flag marked) (word_value r)
 
 module _ (e i q s t : ℕ) (flag : Bool) (marked before : List ℕ) where
   module _ (n : ℕ) (first : FirstOf (receive_order e i q s t (length marked) (length before) (fewest_wrong marked 0) (SomeLost e i q s (block_in flag marked))) n) where
@@ -87,25 +86,25 @@ module _ (e i q s t : ℕ) (flag : Bool) (marked before : List ℕ) where
           | no n ↦ (ap length (R.refused n).0, ap length (R.refused n).1)
         ]
 
-  same_refusal : (r : WordRefusal) (d : Decoded) → Refused (Word r) ≡ word_stage d → d ≡ decoded.Refused r
-  same_refusal r decoded.Delivered is = let z : ◌≡◌ {A = ℕ} 0 1 = cc in absurd (omega arith)
-  same_refusal r (decoded.Refused o) is = let same : r ≡ o = cc in ap decoded.Refused (sym same)
+  same_refusal : (r : WordRefusal) (d : Decoded) → Err (Word r) ≡ word_stage d → d ≡ Err r
+  same_refusal r (Ok done) is = let z : ◌≡◌ {A = ℕ} 0 1 = cc in absurd (omega arith)
+  same_refusal r (Err o) is = let same : r ≡ o = cc in ap Err (sym same)
 
   pub receive_stages : (answer : Received) (counts : List ℕ) (total : ℕ) (turned : Bool) (frame : List ℕ) → ReceiveOutcome e i q s t flag marked before answer counts total turned frame
       → StageNumbers e i q s flag marked answer
-  receive_stages Delivered counts total turned frame R = tt
-  receive_stages (Refused (Parameters p)) counts total turned frame R =
+  receive_stages (Ok done) counts total turned frame R = tt
+  receive_stages (Err (Parameters p)) counts total turned frame R =
       first_listed (receive_parameters e i q s t (length marked) (length before)) (parameter_number p) (parameter_nonzero p) R.stage
-  receive_stages (Refused (Marker r)) counts total turned frame R = (ap marker_number R.stage, ap marker_value R.stage)
-  receive_stages (Refused (Word r)) counts total turned frame R = (ten, lowest D.answered (same_refusal r D.answered D.same) D.outcome.word)
+  receive_stages (Err (Marker r)) counts total turned frame R = (ap marker_number R.stage, ap marker_value R.stage)
+  receive_stages (Err (Word r)) counts total turned frame R = (ten, lowest D.answered (same_refusal r D.answered D.same) D.outcome.word)
     where
       ten : word_number r ≡ 10
       ten = ap word_number R.stage.1
 
-      D : AsDecode e i q s (block_in flag marked) before (Refused (Word r)) counts total frame
-      D = decoded_past (Refused (Word r)) counts total turned frame R (inr ten)
+      D : AsDecode e i q s (block_in flag marked) before (Err (Word r)) counts total frame
+      D = decoded_past (Err (Word r)) counts total turned frame R (inr ten)
 
-      lowest : (d : Decoded) → d ≡ decoded.Refused r → (decoded_number d ≡ 10 → LowestLost e i q s (block_in flag marked) (decoded_value d))
+      lowest : (d : Decoded) → d ≡ Err r → (decoded_number d ≡ 10 → LowestLost e i q s (block_in flag marked) (decoded_value d))
           → LowestLost e i q s (block_in flag marked) (word_value r)
       lowest d is word =
           subst (λ (x : Decoded). LowestLost e i q s (block_in flag marked) (decoded_value x)) is (word (ap decoded_number is ∙ ten))

@@ -1,4 +1,6 @@
 -- What `transmit` answers: refused for a parameter, or a marked block whose part after the marker is coded, and randomised if asked.
+use Rattle.std.specs.Prelude.{Ok, Err}
+use Rattle.refusals.specs.Numbers.{Verdict}
 use mathlib.Core.Path.{◌≡◌, refl, sym, ap, ap₂, ◌∙◌}
 use mathlib.Core.Bool.{Bool}
 use mathlib.Core.List.{List, ◌++◌, append-nil}
@@ -12,13 +14,11 @@ use Rattle.octets.specs.Copies.{copied_over}
 use Rattle.octets.proofs.Laws.{copied_fitting}
 use Rattle.refusals.specs.Order.{FirstOf}
 use Rattle.refusals.specs.Sizes.{frame_length, block_length, marked_length}
-use Rattle.refusals.specs.Numbers.{verdict_number}
+use Rattle.refusals.specs.Numbers.{parameter_number}
 use Rattle.refusals.specs.Calls.{encode_order, transmit_order}
 use Rattle.refusals.specs.declared.Parameter.{Parameter}
-use Rattle.refusals.specs.declared.Verdict.{Verdict}
-use Rattle.refusals.specs.declared.Verdict.TheVariants.{Accepted, Refused}
 use Rattle.refusals.proofs.Orders.{Clear, accepted_clear, clear_accepted, not_different, first_unique}
-use Rattle.refusals.proofs.Verdicts.{parameter_nonzero, same_verdict, passed}
+use Rattle.refusals.proofs.Verdicts.{parameter_nonzero}
 use Rattle.refusals.proofs.Legal.{LegalWords, legal_words}
 use Rattle.marker.specs.Place.{marker}
 use Rattle.encoding.specs.Outcome.{EncodeOutcome}
@@ -70,20 +70,17 @@ put_back list put fits = drop_at (take 4 list) (put ++ drop (length list - 4) (d
 
 -- ---- transmit
 
-module _ (e i q : ℕ) (flag : Bool) (frame before : List ℕ) (v : Verdict) (first : FirstOf (transmit_order e i q (length frame) (length before)) (verdict_number v)) where
-  pub transmit_refuses : (p : Parameter) → v ≡ Refused p → TransmitOutcome e i q flag frame before (Refused p) before
-  transmit_refuses p is =
+module _ (e i q : ℕ) (flag : Bool) (frame before : List ℕ) where
+  pub transmit_refuses : (p : Parameter) → FirstOf (transmit_order e i q (length frame) (length before)) (parameter_number p) → TransmitOutcome e i q flag frame before (Err p) before
+  transmit_refuses p f =
       record {
-        number = same_verdict (transmit_order e i q (length frame) (length before)) v (Refused p) is first;
+        number = f;
         size = refl;
         refused = λ n. refl;
         accepted = λ z. absurd (parameter_nonzero p z);
       }
 
-  module _ (is : v ≡ Accepted) where
-    passes : FirstOf (transmit_order e i q (length frame) (length before)) 0
-    passes = passed (transmit_order e i q (length frame) (length before)) v is first
-
+  module _ (passes : FirstOf (transmit_order e i q (length frame) (length before)) 0) where
     pub marker_fits : 4 ≤ length before
     marker_fits = omega (arith, (transmit_legal e i q (length frame) (length before) passes).output)
 
@@ -100,13 +97,11 @@ module _ (e i q : ℕ) (flag : Bool) (frame before : List ℕ) (v : Verdict) (fi
     accepted : FirstOf (encode_order e i q (length frame) (length part)) 0
     accepted = block_passes e i q (length frame) (length before) (length part) part_size passes
 
-    module _ (w : Verdict) (block : List ℕ) (C : EncodeOutcome e i q frame part w block) where
-      -- Transmit's checks are encode's: encode refuses nothing that came so far.
-      pub never_refused : (p : Parameter) → w ≡ Refused p → ⊥
-      never_refused p refuses =
-          parameter_nonzero p
-          (ap verdict_number (sym refuses) ∙ first_unique (encode_order e i q (length frame) (length part)) (verdict_number w) 0 C.number accepted)
+    -- Transmit's checks are encode's: encode refuses nothing that came so far.
+    pub never_refused : (p : Parameter) (block : List ℕ) → EncodeOutcome e i q frame part (Err p) block → ⊥
+    never_refused p block C = parameter_nonzero p (first_unique (encode_order e i q (length frame) (length part)) (parameter_number p) 0 C.number accepted)
 
+    module _ (block : List ℕ) (C : EncodeOutcome e i q frame part (Ok tt) block) where
       -- the marked block once the coded block is back in it
       abbrev coded : List ℕ
       coded = put_mid 4 (length before - 4) before block
@@ -132,14 +127,14 @@ module _ (e i q : ℕ) (flag : Bool) (frame before : List ℕ) (v : Verdict) (fi
             let legal : EncodeLegal e i q (length frame) (length part) = encode_legal e i q (length frame) (length part) accepted in
             omega (arith, ap length lent_is, C.size, legal.output, block_most e i q legal.words)
 
-        pub transmit_accepts : w ≡ Accepted → (sent : List ℕ) → sent ≡ randomised_if flag (mid_of 4 (length marked - 4) marked)
-            → TransmitOutcome e i q flag frame before Accepted (put_mid 4 (length marked - 4) marked sent)
-        transmit_accepts yields sent is =
+        pub transmit_accepts : (sent : List ℕ) → sent ≡ randomised_if flag (mid_of 4 (length marked - 4) marked)
+            → TransmitOutcome e i q flag frame before (Ok tt) (put_mid 4 (length marked - 4) marked sent)
+        transmit_accepts sent is =
             record {
               number = passes;
               size = ap length whole ∙ omega (arith, length-append marker (randomised_if flag block), randomised-length flag block, C.size, part_size);
               refused = λ n. absurd (n refl);
-              accepted = λ z. record { block = block; coded = C.accepted (ap verdict_number yields); sent = whole };
+              accepted = λ z. record { block = block; coded = C.accepted refl; sent = whole };
             }
           where
             front : take 4 marked ≡ marker

@@ -1,23 +1,20 @@
 -- What transmit and receive promise (document 01, "Marker, chains and search", "Refusal numbers and the order of checks"; document 02, (v)).
-use Rattle.std.specs.Prelude.{◌≡◌, Bool, true, false, ◌≢◌, List, ◌++◌, ℕ, ◌≤◌, ◌<◌, length, drop, replicate}
+use Rattle.std.specs.Prelude.{◌≡◌, Bool, true, false, ◌≢◌, ⊤, Result, Ok, Err, List, ◌++◌, ℕ, ◌≤◌, ◌<◌, length, drop, replicate}
 use Rattle.octets.specs.Bits.{inverted}
 use Rattle.refusals.specs.Order.{FirstOf}
-use Rattle.refusals.specs.Numbers.{parameter_number, verdict_number, marker_number, marker_value, word_number, word_value}
+use Rattle.refusals.specs.Numbers.{parameter_number, Verdict, verdict_number, marker_number, marker_value, word_number, word_value}
 use Rattle.refusals.specs.Calls.{transmit_order, receive_parameters, receive_order}
-use Rattle.refusals.specs.declared.Verdict.{Verdict}
 use Rattle.refusals.specs.declared.MarkerRefusal.TheVariants.{WrongBits}
 use Rattle.refusals.specs.declared.WordRefusal.TheVariants.{NoCodeword}
 use Rattle.marker.specs.declared.Form.{Form}
 use Rattle.marker.specs.declared.Form.TheVariants.{True, Complement}
 use Rattle.marker.specs.Place.{marker, form_at, fewest_wrong}
 use Rattle.randomiser.specs.Sequence.{randomised}
-use Rattle.reed_solomon.specs.declared.Decoded.{Decoded}
-use Rattle.reed_solomon.specs.declared.Decoded.TheVariants as decoded
 use Rattle.encoding.specs.Outcome.{Coded}
-use Rattle.reed_solomon.specs.Outcome.{Lost, DecodeOutcome}
+use Rattle.reed_solomon.specs.Outcome.{Lost, Decoded, DecodeOutcome}
+use Rattle.chain.specs.declared.Stage.{Stage}
 use Rattle.chain.specs.declared.Stage.TheVariants.{Parameters, Marker, Word}
-use Rattle.chain.specs.declared.Received.{Received}
-use Rattle.chain.specs.declared.Received.TheVariants.{Delivered, Refused}
+use Rattle.chain.specs.declared.Reception.{Reception}
 
 -- A block is randomised if that is asked.
 abbrev pub randomised_if : Bool → List ℕ → List ℕ
@@ -59,30 +56,61 @@ pub record TransmitOutcome (e i q : ℕ) (flag : Bool) (frame before : List ℕ)
   pub refused : verdict_number answer ≢ 0 → after ≡ before
   pub accepted : verdict_number answer ≡ 0 → Transmitted e i q flag frame after
 
+-- The number and the value of a stage's refusal.
+abbrev pub stage_number : Stage → ℕ
+stage_number (Parameters p) = parameter_number p
+stage_number (Marker r) = marker_number r
+stage_number (Word r) = word_number r
+
+abbrev pub stage_value : Stage → ℕ
+stage_value (Parameters p) = 0
+stage_value (Marker r) = marker_value r
+stage_value (Word r) = word_value r
+
+-- Receive's answer: the block is delivered, or refused by a stage.
+abbrev pub Received : Type 0
+Received = Result ⊤ Stage
+
+abbrev pub Delivered : Received
+Delivered = Ok tt
+
+-- The answer in what receive gives back, and what that reports: counts, total, and whether the block was inverted, all zero and no on a refusal.
+abbrev pub received_of : Result Reception Stage → Received
+received_of (Ok reception) = Delivered
+received_of (Err stage) = Err stage
+
+abbrev pub received_counts : Result Reception Stage → List ℕ
+received_counts (Ok reception) = reception.counts
+received_counts (Err stage) = replicate 8 0
+
+abbrev pub received_total : Result Reception Stage → ℕ
+received_total (Ok reception) = reception.total
+received_total (Err stage) = 0
+
+abbrev pub received_inverted : Result Reception Stage → Bool
+received_inverted (Ok reception) = reception.inverted
+received_inverted (Err stage) = false
+
 -- The number and the value of receive's answer are those of the stage that refused; 0 is delivered.
 abbrev pub received_number : Received → ℕ
-received_number Delivered = 0
-received_number (Refused (Parameters p)) = parameter_number p
-received_number (Refused (Marker r)) = marker_number r
-received_number (Refused (Word r)) = word_number r
+received_number (Ok done) = 0
+received_number (Err stage) = stage_number stage
 
 abbrev pub received_value : Received → ℕ
-received_value Delivered = 0
-received_value (Refused (Parameters p)) = 0
-received_value (Refused (Marker r)) = marker_value r
-received_value (Refused (Word r)) = word_value r
+received_value (Ok done) = 0
+received_value (Err stage) = stage_value stage
 
 -- Decode's answer as receive gives it: a refusal is one of the word stage.
 abbrev pub word_stage : Decoded → Received
-word_stage decoded.Delivered = Delivered
-word_stage (decoded.Refused r) = Refused (Word r)
+word_stage (Ok done) = Delivered
+word_stage (Err r) = Err (Word r)
 
 -- Which stage refuses with what: parameters with the first of their checks that is due, the marker with its fewest wrong bits, a word with its number.
 abbrev pub StageRefuses : ℕ → ℕ → ℕ → ℕ → ℕ → List ℕ → List ℕ → Received → Type 0
-StageRefuses e i q s t marked before Delivered = Unit
-StageRefuses e i q s t marked before (Refused (Parameters p)) = FirstOf (receive_parameters e i q s t (length marked) (length before)) (parameter_number p)
-StageRefuses e i q s t marked before (Refused (Marker r)) = r ≡ WrongBits (fewest_wrong marked 0)
-StageRefuses e i q s t marked before (Refused (Word r)) = (w : ℕ) × (r ≡ NoCodeword w)
+StageRefuses e i q s t marked before (Ok done) = Unit
+StageRefuses e i q s t marked before (Err (Parameters p)) = FirstOf (receive_parameters e i q s t (length marked) (length before)) (parameter_number p)
+StageRefuses e i q s t marked before (Err (Marker r)) = r ≡ WrongBits (fewest_wrong marked 0)
+StageRefuses e i q s t marked before (Err (Word r)) = (w : ℕ) × (r ≡ NoCodeword w)
 
 -- As decode: receive's answer, report and frame are those of an outcome that decode's contract permits for the block.
 pub record AsDecode (e i q s : ℕ) (block before : List ℕ) (answer : Received) (counts : List ℕ) (total : ℕ) (after : List ℕ) : Type 0 where
@@ -92,8 +120,8 @@ pub record AsDecode (e i q s : ℕ) (block before : List ℕ) (answer : Received
 
 -- Receive says that it inverted a block only where it delivers.
 abbrev pub said_inverted : Received → Bool → Bool
-said_inverted Delivered turned = turned
-said_inverted (Refused stage) turned = false
+said_inverted (Ok done) turned = turned
+said_inverted (Err stage) turned = false
 
 -- Receive checks in its order. After a refusal the frame is as it was and the report is all zero; past the parameters and the marker,
 -- receive's outcome is decode's, of the block opened, and says whether it inverted it.

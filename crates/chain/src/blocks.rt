@@ -11,16 +11,15 @@ pub(crate) fn randomise_if(asked: bool, block: &mut [u8])
     ensures { block.new ≡ randomised_if asked block.old }
 {
     if asked {
-        randomiser::randomise(block);
+        let _ = randomiser::randomise(block);
     }
 }
 
 fn invert(block: &mut [u8])
     ensures { block.new ≡ inverted block.old }
 {
-    let len = block.len();
-    for i in 0..len {
-        block[i] = !block[i];
+    for octet in block.iter_mut() {
+        *octet = !*octet;
     }
 }
 

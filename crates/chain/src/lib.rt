@@ -3,6 +3,7 @@
 
 mod blocks;
 mod receiver;
+mod stages;
 mod transmitter;
 
 pub use receiver::receive;
@@ -10,24 +11,16 @@ use refusals::{MarkerRefusal, Parameter, WordRefusal};
 pub use transmitter::transmit;
 
 // The stage of receive that refused, with its own refusal.
-#[derive(Clone, Copy)]
+#[derive(Clone, Copy, Debug, PartialEq, Eq)]
 pub enum Stage {
     Parameters(Parameter),
     Marker(MarkerRefusal),
     Word(WordRefusal),
 }
 
-// Receive's answer.
-#[derive(Clone, Copy)]
-pub enum Received {
-    Delivered,
-    Refused(Stage),
-}
-
-// The answer, with decode's report, zero on a refusal, and whether a delivered block was inverted.
-#[derive(Clone, Copy)]
+// Decode's report of a delivered block, and whether the block was inverted.
+#[derive(Clone, Copy, Debug, PartialEq, Eq)]
 pub struct Reception {
-    pub answer: Received,
     pub total: u32,
     pub counts: [u8; 8],
     pub inverted: bool,
