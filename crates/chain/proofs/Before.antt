@@ -1,6 +1,6 @@
 -- Receive as it was before the complement was known, and that with a true marker every answer of its stands.
 use Rattle.std.specs.Prelude.{Ok, Err}
-use Rattle.chain.specs.Outcome.{Received, Delivered}
+use Rattle.chain.specs.Outcome.{Received}
 use mathlib.Core.Path.{◌≡◌, refl, sym, ap, ◌∙◌, subst}
 use mathlib.Core.Bool.{Bool, false}
 use mathlib.Core.Logic.{◌≢◌}

@@ -1,6 +1,6 @@
 -- A marked block with all bits inverted is received as the block itself is, and said to be inverted where that one is not.
 use Rattle.std.specs.Prelude.{Ok, Err}
-use Rattle.chain.specs.Outcome.{Received, Delivered}
+use Rattle.chain.specs.Outcome.{Received}
 use mathlib.Core.Path.{◌≡◌, refl, sym, ap, ◌∙◌, subst}
 use mathlib.Core.Bool.{Bool, not}
 use mathlib.Core.Logic.{inl, inr}

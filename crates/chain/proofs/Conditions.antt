@@ -1,9 +1,9 @@
 -- The conditions of acceptance for the whole: what receive makes of a transmitted block, and condition 1 of all thirteen calls.
-use Rattle.std.specs.Prelude.{Ok, Err}
+use Rattle.std.specs.Prelude.{Ok}
 use Rattle.refusals.specs.Numbers.{Verdict}
 use Rattle.reed_solomon.specs.Outcome.{Decoded}
 use Rattle.chain.specs.Outcome.{Received, Delivered}
-use Rattle.marker.specs.Outcome.{TestAnswer}
+use Rattle.marker.specs.Outcome.{TestAnswer, SearchAnswer}
 use mathlib.Core.Path.{◌≡◌, refl, sym, ap, ap₂, ◌∙◌, subst}
 use mathlib.Core.Bool.{Bool, true, false, not}
 use mathlib.Core.Logic.{◌≢◌}
@@ -25,14 +25,11 @@ use Rattle.marker.specs.declared.Form.{Form}
 use Rattle.marker.specs.declared.Form.TheVariants.{True, Complement}
 use Rattle.marker.specs.Place.{marker, form_at, fewest_wrong}
 use Rattle.marker.specs.Outcome.{tested_number, searched_number, TestOutcome, SearchOutcome}
-use Rattle.marker.specs.declared.Searched.{Searched}
 use Rattle.randomiser.specs.Outcome.{RandomiseOutcome}
 use Rattle.convolution.specs.Outcome as coder
 use Rattle.convolution.specs.declared.State.{State}
-use Rattle.convolution.specs.declared.Ran.{Ran}
-use Rattle.convolution.specs.declared.Convolved.{Convolved}
-use Rattle.viterbi.specs.Outcome.{sought_number, LikeliestOutcome}
-use Rattle.viterbi.specs.declared.Sought.{Sought}
+use Rattle.convolution.specs.Outcome.{Convolved}
+use Rattle.viterbi.specs.Outcome.{Sought, sought_number, LikeliestOutcome}
 use Rattle.encoding.specs.Blocks.{word_of, sent_from, sum}
 use Rattle.frame_portions.specs.declared.Progress.{Progress}
 use Rattle.frame_portions.specs.Portions.{PortionOutcome, CloseOutcome}
@@ -248,16 +245,16 @@ pub record ConditionOne : Type 0 where
       → FirstAndKept (salvage_order e i q s (length block) (length before) (length listed)) (verdict_number answer) ((frame ≡ before) × (list ≡ listed))
   pub randomise : (before : List ℕ) (answer : Verdict) (after : List ℕ) → RandomiseOutcome before answer after
       → FirstAndKept (randomise_order (length before)) (verdict_number answer) (after ≡ before)
-  pub convolve : (rate : ℕ) (state : State) (octets before : List ℕ) (ran : Ran) (after : List ℕ) → coder.ConvolveOutcome rate state octets before ran after
-      → FirstAndKept (convolve_order rate state.register state.place state.holds (length octets) (length before)) (coder.convolved_number ran.answer)
-      ((ran.state ≡ state) × (after ≡ before))
+  pub convolve : (rate : ℕ) (state : State) (octets before : List ℕ) (answer : Convolved) (next : State) (after : List ℕ) → coder.ConvolveOutcome rate state octets before answer next after
+      → FirstAndKept (convolve_order rate state.register state.place state.holds (length octets) (length before)) (coder.convolved_number answer)
+      ((next ≡ state) × (after ≡ before))
   pub coder_close : (rate : ℕ) (state : State) (before : List ℕ) (answer : Convolved) (after : List ℕ) → coder.CloseOutcome rate state before answer after
       → FirstAndKept (coder_close_order rate state.register state.place state.holds (length before)) (coder.convolved_number answer) (after ≡ before)
   pub likeliest : (register : ℕ) (received before : List ℕ) (answer : Sought) (after : List ℕ) → LikeliestOutcome register received before answer after
       → FirstAndKept (likeliest_order register (length received) (length before)) (sought_number answer) (after ≡ before)
   pub test : (t : ℕ) (octets : List ℕ) (answer : TestAnswer) → TestOutcome t octets answer
       → FirstAndKept (marker_order t (length octets) (fewest_wrong octets 0)) (tested_number answer) Unit
-  pub search : (t : ℕ) (stream : List ℕ) (start budget : ℕ) (answer : Searched) → SearchOutcome t stream start budget answer
+  pub search : (t : ℕ) (stream : List ℕ) (start budget : ℕ) (answer : SearchAnswer) → SearchOutcome t stream start budget answer
       → FirstAndKept (search_order t (length stream) start) (searched_number answer) Unit
   pub transmit : (e i q : ℕ) (flag : Bool) (frame before : List ℕ) (answer : Verdict) (after : List ℕ) → TransmitOutcome e i q flag frame before answer after
       → FirstAndKept (transmit_order e i q (length frame) (length before)) (verdict_number answer) (after ≡ before)
@@ -274,7 +271,7 @@ condition_one =
       decode = λ e i q s block before answer counts total after O. (O.number, λ n. (O.refused n).0);
       salvage = λ e i q s block before listed answer marks counts entries frame list O. (O.number, λ n. ((O.refused n).0, (O.refused n).1));
       randomise = λ before answer after O. (O.number, O.refused);
-      convolve = λ rate state octets before ran after O. (O.number, O.refused);
+      convolve = λ rate state octets before answer next after O. (O.number, O.refused);
       coder_close = λ rate state before answer after O. (O.number, O.refused);
       likeliest = λ register received before answer after O. (O.number, O.refused);
       test = λ t octets answer O. (O.number, λ n. tt);

@@ -1,6 +1,5 @@
 -- What `receive` answers: refused for a parameter, refused for the marker, or as decode answers for the block opened.
 use Rattle.std.specs.Prelude.{Ok, Err}
-use Rattle.refusals.specs.Numbers.{Verdict}
 use Rattle.reed_solomon.specs.Outcome.{Decoded}
 use Rattle.chain.specs.Outcome.{Received, Delivered}
 use Rattle.marker.specs.Outcome.{TestAnswer}
@@ -17,7 +16,7 @@ use Rattle.octets.specs.Copies.{copied_over}
 use Rattle.octets.proofs.Laws.{copied_length, copied_front}
 use Rattle.refusals.specs.Order.{Check, FirstOf}
 use Rattle.refusals.specs.Sizes.{frame_length, marked_length}
-use Rattle.refusals.specs.Numbers.{verdict_number, parameter_number, marker_number}
+use Rattle.refusals.specs.Numbers.{parameter_number, marker_number}
 use Rattle.refusals.specs.Calls.{marker, word, marker_parameters, decode_parameters, receive_parameters, receive_order}
 use Rattle.refusals.specs.declared.Parameter.{Parameter}
 use Rattle.refusals.specs.declared.MarkerRefusal.{MarkerRefusal}
@@ -25,13 +24,13 @@ use Rattle.refusals.specs.declared.MarkerRefusal.TheVariants as refusal
 use Rattle.refusals.specs.declared.WordRefusal.{WordRefusal}
 use Rattle.refusals.specs.declared.WordRefusal.TheVariants as lost
 use Rattle.refusals.proofs.Orders.{Begins, Clear, Numbered, accepted_clear, clear_accepted, not_different, first_unique, first_passes}
-use Rattle.refusals.proofs.Verdicts.{parameter_nonzero, parameter_not_nine, parameter_not_ten, same_verdict, passed, stopped}
+use Rattle.refusals.proofs.Verdicts.{parameter_nonzero, parameter_not_nine, parameter_not_ten, stopped}
 use Rattle.refusals.proofs.Legal.{LegalWords, legal_words, decode_numbers}
 use Rattle.marker.specs.declared.Near.{Near}
 use Rattle.marker.specs.Place.{form_at, fewest_wrong}
 use Rattle.marker.specs.Outcome.{tested_number, TestOutcome}
 use Rattle.reed_solomon.specs.Outcome.{DecodeOutcome, decoded_number}
-use Rattle.reed_solomon.proofs.Deliverable.{SomeLost, Order, delivered_is}
+use Rattle.reed_solomon.proofs.Deliverable.{SomeLost, Order}
 use Rattle.chain.specs.declared.Stage.TheVariants.{Parameters, Marker, Word}
 use Rattle.chain.specs.Outcome.{complemented, opened_if, block_in, said_inverted, received_number, word_stage, StageRefuses, AsDecode, ReceiveOutcome}
 use Rattle.chain.proofs.Opening.{opened-length, form_in_front}
@@ -115,11 +114,11 @@ Part e i q s block frame turned answer counts total said after = AsDecode e i q 
 module _ (e i q s : ℕ) (block frame front : List ℕ) (turned : Bool) (is : front ≡ block) where
   pub part_delivered : (counts : List ℕ) (total : ℕ) (after : List ℕ) → DecodeOutcome e i q s front frame (Ok tt) counts total after
       → Part e i q s block frame turned Delivered counts total turned after
-  part_delivered counts total after O = (record { answered = (Ok tt); same = refl; outcome = rw ← is O }, refl)
+  part_delivered counts total after O = (record { answered = (Ok tt); same = refl; outcome = rw (← is) O }, refl)
 
   pub part_refused : (r : WordRefusal) (after : List ℕ) → DecodeOutcome e i q s front frame (Err r) (replicate 8 0) 0 after
       → Part e i q s block frame turned (Err (Word r)) (replicate 8 0) 0 false after
-  part_refused r after O = (record { answered = Err r; same = refl; outcome = rw ← is O }, refl)
+  part_refused r after O = (record { answered = Err r; same = refl; outcome = rw (← is) O }, refl)
 
 -- ---- receive
 

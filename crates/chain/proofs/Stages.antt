@@ -1,7 +1,7 @@
 -- How far receive came: which stage refuses with which number, and that an answer past the marker is decode's.
 use Rattle.std.specs.Prelude.{Ok, Err}
 use Rattle.reed_solomon.specs.Outcome.{Decoded}
-use Rattle.chain.specs.Outcome.{Received, Delivered}
+use Rattle.chain.specs.Outcome.{Received}
 use mathlib.Core.Path.{◌≡◌, refl, sym, ap, ◌∙◌, subst}
 use mathlib.Core.Bool.{Bool}
 use mathlib.Core.Logic.{◌≢◌, ◌⊎◌, inl, inr}

@@ -1,7 +1,6 @@
 -- What `transmit` answers: refused for a parameter, or a marked block whose part after the marker is coded, and randomised if asked.
 use Rattle.std.specs.Prelude.{Ok, Err}
-use Rattle.refusals.specs.Numbers.{Verdict}
-use mathlib.Core.Path.{◌≡◌, refl, sym, ap, ap₂, ◌∙◌}
+use mathlib.Core.Path.{◌≡◌, refl, ap, ap₂, ◌∙◌}
 use mathlib.Core.Bool.{Bool}
 use mathlib.Core.List.{List, ◌++◌, append-nil}
 use Prim.Native.Nat.{ℕ, ◌+◌, ◌-◌, ◌≤◌}

@@ -3,7 +3,7 @@
 
 mod blocks;
 mod receiver;
-mod stages;
+mod refusing;
 mod transmitter;
 
 pub use receiver::receive;
