@@ -2,7 +2,7 @@
 use Prim.Native.Nat.{◌≤◌, ◌-◌}
 use lib.ListN.{length, drop}
 use Rattle.words.specs.Working.{HoldsProduct}
-use Rattle.words.proofs.marks.times_marks.Given as goal
+use Rattle.words.proofs.marks.Marks.times_marks.Given as goal
 
 abbrev pub invariant-loop-power : goal.invariant-loop-power
 invariant-loop-power l = (l.power ≤ l.n) × HoldsProduct l.initial.out (drop (length l.marks - l.power) l.marks) l.out
