@@ -22,9 +22,8 @@ fn changed(s: &[u8], gamma: &[u8]) -> [u8; 32]
     ensures { Filled (windowed s.now gamma.now) 32 result (length s.now + 1 - length gamma.now) }
 {
     let mut out: [u8; 32] = [0; 32];
-    for i in 0..s.len() + 1 - gamma.len() {
-        let term = pair(gamma, &s[i..]);
-        out[i] = term;
+    for (i, window) in s.windows(gamma.len()).enumerate() {
+        out[i] = pair(gamma, window);
     }
     out
 }
@@ -44,12 +43,10 @@ impl Marks<'_> {
         if self.count == 0 {
             return start;
         }
-        let marks = self.marks;
-        let n = marks.len();
         let mut out = start;
-        for power in 0..n {
-            if marks[n - 1 - power] != 0 {
-                out = by_root(&out, LOCATORS[power]);
+        for (mark, z) in self.marks.iter().rev().zip(&LOCATORS) {
+            if *mark != 0 {
+                out = by_root(&out, *z);
             }
         }
         out

@@ -2,8 +2,6 @@
 use mathlib.Core.Path.{refl, sym}
 use native.Mathlib.Omega.{arith}
 use lib.ListN.{length, length-take}
-use lib.Seq.{length-take-le}
-use Rattle.refusals.proofs.Legal.{strength_bounds}
 use Rattle.codewords.proofs.WordValues.{octets_of_lem}
 use Rattle.words.proofs.Outcomes.{take_clear, not_found_is, none_good, found_good}
 use Rattle.words.proofs.errors_of_legal.Goals as goal

@@ -1,8 +1,7 @@
 -- `errors_found`: the register is too long, the roots are too few, or what the roots give is the one good codeword.
-use mathlib.Core.Path.{refl, sym}
+use mathlib.Core.Path.{refl}
 use Prim.Native.Nat.{ℕ, ◌+◌, ◌*◌, ◌/◌}
 use native.Mathlib.Omega.{arith}
-use lib.Seq.{length-take-le}
 use borrow.Author.Rules.{rules}
 use Rattle.words.proofs.Arrays.{zero-at}
 use Rattle.words.proofs.Decisions.{too_far_by, too_few_by, decided_by}

@@ -1,33 +1,27 @@
 -- `times_marks` has nothing to do with no mark; else it walks from the last place to the first, with a factor for each mark passed.
-use mathlib.Core.Path.{◌≡◌, subst, sym}
-use Prim.Native.Nat.{◌-◌}
-use native.Mathlib.Omega.{arith}
-use lib.ListN.{length}
-use Rattle.words.proofs.MarkedProducts.{product_starts, product_unmarked, product_marked, product_plain}
+use Rattle.std.proofs.Common.{arith, ◌≡◌, inl, inr}
+use Rattle.words.specs.declared.locators.TheConstants.{LOCATORS}
+use Rattle.words.proofs.MarkedProducts.{product_unmarked}
+use Rattle.words.proofs.MarksPassed.{passed_starts, passed_marked, passed_plain, passed_ends}
 use Rattle.words.proofs.Tables.{locators_listed}
-use Rattle.words.specs.Working.{HoldsProduct}
 use Rattle.words.proofs.marks.Marks.times_marks.Goals as goal
-use Rattle.words.proofs.marks.Marks.times_marks.Goals.{then-marks-n-ne0, else-marks-n-ne0}
 
 pub returns-then-self-eq0 : goal.returns-then-self-eq0
 returns-then-self-eq0 c = product_unmarked _ _ (omega arith) (omega arith)
 
-pub loop-power-init : goal.loop-power-init
-loop-power-init c = (omega arith, product_starts _ c.args.self.now.marks.now (omega arith))
+pub loop-mark-init : goal.loop-mark-init
+loop-mark-init c =
+    let marks_are : c.into_iter-mark-iterator.result.a.iter.rest.now ≡ c.args.self.now.marks.now = cc in
+    let locators_are : c.into_iter-mark-iterator.result.b.rest.now ≡ LOCATORS = cc in
+    rw (marks_are, locators_are) (passed_starts LOCATORS _ _ (omega arith))
 
-pub loop-power-preserved : goal.loop-power-preserved
-loop-power-preserved c =
-    let marks = c.args.self.now.marks.now in (
-      omega arith,
-      elim c.if-marks-n-ne0.branch [
-        | then-marks-n-ne0 w ↦ subst (HoldsProduct _ _) (sym w.out-is) (product_marked _ marks c.loop-power.power _ (omega arith) c.loop-power.invariant.1 _ _
-            w.if-marks-n-ne0.true (locators_listed.each _ (omega arith)) w.by_root-out.ensures)
-        | else-marks-n-ne0 w ↦ subst (HoldsProduct _ _) (sym w.out-is) (product_plain _ marks c.loop-power.power _ (omega arith) c.loop-power.invariant.1
-            w.if-marks-n-ne0.false)
-      ],
-    )
+pub loop-mark-preserved-then-mark-ne0 : goal.loop-mark-preserved-then-mark-ne0
+loop-mark-preserved-then-mark-ne0 c =
+    passed_marked LOCATORS _ _ _ _ _ _ _ _ _ locators_listed (omega arith) c.in-Some.ensures.steps.0 c.in-Some.ensures.steps.1 c.loop-mark.invariant c.if-mark-ne0.true _ c.by_root-out.ensures
+
+pub loop-mark-preserved : goal.loop-mark-preserved
+loop-mark-preserved c =
+    passed_plain LOCATORS _ _ _ _ _ _ _ _ _ locators_listed (omega arith) c.in-Some.ensures.steps.0 c.in-Some.ensures.steps.1 c.loop-mark.invariant c.if-mark-ne0.false
 
 pub returns : goal.returns
-returns c =
-    let all : length c.args.self.now.marks.now - c.loop-power.power ≡ 0 = omega arith in
-    rw all at c.loop-power.invariant.1
+returns c = passed_ends LOCATORS _ _ _ _ _ locators_listed.size (omega arith) c.loop-mark.invariant (elim c.in-None.ensures.steps [ inl e ↦ inl e.1.0 | inr e ↦ inr e.1.0 ])

@@ -1,5 +1,5 @@
 -- `values_everywhere` puts three rows of values in place in each turn, behind those of the turns before.
-use Prim.Native.Nat.{◌-◌, ◌*◌, ◌≤◌}
+use Prim.Native.Nat.{◌*◌}
 use Rattle.words.proofs.Thirds.{RowsPut}
 use Rattle.words.proofs.roots.Parted.values_everywhere.Given as goal
 
