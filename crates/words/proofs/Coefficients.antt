@@ -13,6 +13,7 @@ use Rattle.field.specs.Field.{◌⊕◌, ◌·◌}
 use Rattle.field.proofs.Sum.{⊕_is, ⊕_assoc, ⊕-zero, zero-⊕}
 use Rattle.field.proofs.Product.{·-zero, zero-·}
 use Rattle.codewords.specs.Polynomials.{eval, ◌⊞◌, scaled, shift_by, by_root, quot, dot}
+use Rattle.codewords.proofs.Polynomials.{dot_ext}
 use Rattle.codewords.proofs.Roots.{length-by_root}
 use Rattle.words.specs.Working.{Filled, Same, terms, by_root_at, windowed}
 use Rattle.words.proofs.Arrays.{filled_turn, sum_turn, zero-at}
@@ -187,3 +188,36 @@ by_root_made z p copy out size e F = record { size = F.size; each = λ i l. F.ea
     below : (i : ℕ) → i < 33 → get_or (0 ∷ (copy ++ [])) i 0 ≡ get_or (0 ∷ p) i 0
     below zero l = refl
     below (suc i) l = rw (append-nil copy) (ap (λ (t : List ℕ). get_or t i 0) e ∙ get_or-take 32 p i 0 (omega (arith, length-take-le 32 p (omega arith))))
+
+-- ---- the loop that pairs what is left of two lists
+
+pub pair_next : (p s p' s' : List ℕ) (a b sum total product : ℕ) → p ≡ a ∷ p' → s ≡ b ∷ s' → product ≡ a · b → sum ⊕ dot (terms s) 0 p ≡ total
+    → bit_xor sum product ⊕ dot (terms s') 0 p' ≡ total
+unfolding dot terms
+pair_next p s p' s' a b sum total product ep es e so =
+    ap₂ (λ (x y : ℕ). x ⊕ y) (sym (⊕_is sum product) ∙ ap (λ (x : ℕ). sum ⊕ x) e) (dot_from (terms (b ∷ s')) (terms s') 1 0 p' later)
+    ∙ ⊕_assoc sum (a · b) (dot (terms (b ∷ s')) 1 p') ∙ ap (λ (x : ℕ). sum ⊕ (a · x ⊕ dot (terms (b ∷ s')) 1 p')) first
+    ∙ ap₂ (λ (u v : List ℕ). sum ⊕ dot (terms u) 0 v) (sym es) (sym ep) ∙ so
+  where
+    later : (k : ℕ) → terms s' (0 + k) ≡ terms (b ∷ s') (1 + k)
+    later k = let z : 0 + k ≡ k = omega arith in let o : 1 + k ≡ suc k = omega arith in rw (z, o) refl
+
+    first : b ≡ terms (b ∷ s') 0
+    first = refl
+
+pub pair_none : (p : List ℕ) (S : ℕ → ℕ) (sum total : ℕ) → length p ≡ 0 → sum ⊕ dot S 0 p ≡ total → sum ≡ total
+unfolding dot
+pair_none [] S sum total e so = sym (⊕-zero sum) ∙ so
+pair_none (a ∷ p) S sum total e so = absurd (omega arith)
+
+-- ---- the loop over windows
+
+pub window_of : (s p w : List ℕ) (i t : ℕ) → length p ≤ length (drop i s) → w ≡ take (length p) (drop i s) → t ≡ dot (terms w) 0 p → t ≡ windowed s p i
+unfolding windowed terms
+window_of s p w i t fits e q =
+    q ∙ ap (λ (u : List ℕ). dot (terms u) 0 p) e
+    ∙ dot_ext (terms (take (length p) (drop i s))) (terms (drop i s)) 0 p (λ j l. get_or-take (length p) (drop i s) (0 + j) 0 (omega (arith, length-take-le (length p) (drop i s) fits)))
+    ∙ dot_from (terms s) (terms (drop i s)) i 0 p (λ k. get_or-drop i s (0 + k) 0 ∙ at (i + (0 + k)) (i + k) (omega arith))
+  where
+    at : (j k : ℕ) → j ≡ k → get_or s j 0 ≡ get_or s k 0
+    at j k h = ap (λ (m : ℕ). get_or s m 0) h

@@ -11,6 +11,7 @@ pub mod RowTurns
 pub mod Tables
 pub mod Thirds
 pub mod MarkedProducts
+pub mod MarksPassed
 pub mod RootsFound
 pub mod InversesListed
 pub mod ErrorsPlaced

@@ -4,9 +4,20 @@ ghost use Rattle.codewords.specs.Locators.{weight};
 ghost use Rattle.words.specs.Working.{DecidedBy};
 ghost use Rattle.words.specs.Decision.{errors_decided, unmarked_decided};
 
-use crate::errors::all_errors;
-use crate::marks::{times_marks, unmarked_locator};
-use crate::roots::find_roots;
+use crate::errors::Located;
+use crate::marks::Marks;
+use crate::roots::Parted;
+
+// A code of strength e that vanishes from the m-th power of beta on, and the allowance s.
+#[derive(Clone, Copy)]
+pub(crate) struct WordCode {
+    pub(crate) m: usize,
+    pub(crate) e: usize,
+    pub(crate) s: usize,
+    ghost zeros: { m ≤ 128 },
+    ghost strength: { e ≤ 16 },
+    ghost allowance: { s ≤ e },
+}
 
 // What to add to the symbols to have a good codeword; how many unmarked symbols differ.
 #[derive(Clone, Copy)]
@@ -22,57 +33,50 @@ fn untouched(s: &[u8], f: usize) -> bool
     f == 0 && s.iter().all(|sum| *sum == 0)
 }
 
-// Errors are looked for: with f marks, and the syndromes from the m-th power of beta on.
-fn errors_found(
-    marks: &[u8],
-    f: usize,
-    sums: &[u8],
-    m: usize,
-    e: usize,
-    s: usize,
-) -> Option<Decision>
-    requires { (length marks.now ≤ 255) × (m ≤ 128) × (s ≤ e) × (e ≤ 16) × (f ≡ weight marks.now) × (f ≤ s + s) × (length sums.now ≡ e + e) }
-    ensures { (unmarked_decided result ≤ s) × DecidedBy m e s marks.now sums.now (is_some result) (errors_decided result) (unmarked_decided result) }
+// Errors are looked for, by the marks and the syndromes.
+fn errors_found(marks: &Marks, sums: &[u8], code: WordCode) -> Option<Decision>
+    requires { (marks.now.count ≤ code.s + code.s) × (length sums.now ≡ code.e + code.e) }
+    ensures { (unmarked_decided result ≤ code.s) × DecidedBy code.m code.e code.s marks.now.marks.now sums.now (is_some result) (errors_decided result) (unmarked_decided result) }
 {
-    let locator = unmarked_locator(sums, marks, f);
+    let locator = marks.unmarked_locator(sums);
     let len = locator.len;
-    if len + len + f > s + s {
+    let f = marks.count;
+    if len + len + f > code.s + code.s {
         return None;
     }
-    let lambda = times_marks(locator.sigma, marks, f);
+    let product = marks.times_marks(locator.sigma);
     let parts = (len + f + 3) / 3;
-    let size = 3 * parts;
-    let roots = find_roots(&lambda[..size], parts, marks.len());
+    let lambda = &product[..3 * parts];
+    let places = marks.marks.len();
+    let roots = Parted { lambda, parts }.find_roots(places);
     if roots.count != len + f {
         return None;
     }
+    let located = Located {
+        s: sums,
+        lambda,
+        len: places,
+        m: code.m,
+    };
     Some(Decision {
-        errors: all_errors(sums, &lambda[..size], marks.len(), m, roots),
+        errors: located.all_errors(roots),
         unmarked: len,
     })
 }
 
-// A word with f marks, of strength e, whose code vanishes from the m-th power of beta on, with allowance s, by its syndromes there alone: what
-// makes it a good codeword, or none if there is no good one.
-pub(crate) fn decode_word(
-    marks: &[u8],
-    f: usize,
-    sums: &[u8],
-    m: usize,
-    e: usize,
-    s: usize,
-) -> Option<Decision>
-    requires { (length marks.now ≤ 255) × (f ≡ weight marks.now) × (m ≤ 128) × (s ≤ e) × (e ≤ 16) × (length sums.now ≡ e + e) }
-    ensures { (unmarked_decided result ≤ s) × DecidedBy m e s marks.now sums.now (is_some result) (errors_decided result) (unmarked_decided result) }
+// A word by its marks and its syndromes at the zeros of the code alone: what makes it a good codeword, or none if there is no good one.
+pub(crate) fn decode_word(marks: &Marks, sums: &[u8], code: WordCode) -> Option<Decision>
+    requires { length sums.now ≡ code.e + code.e }
+    ensures { (unmarked_decided result ≤ code.s) × DecidedBy code.m code.e code.s marks.now.marks.now sums.now (is_some result) (errors_decided result) (unmarked_decided result) }
 {
-    if f > s + s {
+    if marks.count > code.s + code.s {
         return None;
     }
-    if untouched(sums, f) {
+    if untouched(sums, marks.count) {
         return Some(Decision {
             errors: [0; 255],
             unmarked: 0,
         });
     }
-    errors_found(marks, f, sums, m, e, s)
+    errors_found(marks, sums, code)
 }

@@ -72,52 +72,61 @@ fn divided(s: &[u8], lambda: &[u8], locators: &[u8; 16]) -> Division
     division
 }
 
-// The error at each of 16 places, if it is a root; the syndromes s begin at the m-th power of beta.
-fn errors_at(s: &[u8], lambda: &[u8], powers: &[u8; 16], m: usize) -> [u8; 16]
-    requires { m ≤ 128 }
-    ensures { Filled (error_at_each s.now lambda.now m powers.now) 16 result 16 }
-{
-    let locators = locator_powers(powers, 1);
-    let q = divided(s, lambda, &locators);
-    let shift = locator_powers(powers, m);
-    let divisor = times(&q.below, &shift);
-    let inverse = inverses(&divisor);
-    times(&q.above, &inverse)
+// A word of len symbols: its syndromes s, which begin at the m-th power of beta, and its locator polynomial.
+#[derive(Clone, Copy)]
+pub(crate) struct Located<'a> {
+    pub(crate) s: &'a [u8],
+    pub(crate) lambda: &'a [u8],
+    pub(crate) len: usize,
+    pub(crate) m: usize,
+    ghost most: { len ≤ 255 },
+    ghost zeros: { m ≤ 128 },
 }
 
-// The errors at the roots from the first-th on, some of 16, put at their places among len.
-fn with_errors(
-    before: [u8; 255],
-    s: &[u8],
-    lambda: &[u8],
-    len: usize,
-    m: usize,
-    powers: &[u8; 32],
-    first: usize,
-    some: usize,
-) -> [u8; 255]
-    requires { (len ≤ 255) × (m ≤ 128) × (first ≤ 16) × (some ≤ 16) × AreRoots lambda.now len powers.now (first + some) × Placed s.now lambda.now len m powers.now before first }
-    ensures { Placed s.now lambda.now len m powers.now result (first + some) }
-{
-    let row = row_from(powers, first);
-    let errors = errors_at(s, lambda, &row, m);
-    let mut out = before;
-    for (c, power) in row[..some].iter().enumerate() {
-        let place = len - 1 - *power as usize;
-        out[place] = errors[c];
+impl Located<'_> {
+    // The error at each of 16 places, if it is a root.
+    fn errors_at(&self, powers: &[u8; 16]) -> [u8; 16]
+        ensures { Filled (error_at_each self.now.s.now self.now.lambda.now self.now.m powers.now) 16 result 16 }
+    {
+        let locators = locator_powers(powers, 1);
+        let q = divided(self.s, self.lambda, &locators);
+        let shift = locator_powers(powers, self.m);
+        let divisor = times(&q.below, &shift);
+        let inverse = inverses(&divisor);
+        times(&q.above, &inverse)
     }
-    out
-}
 
-// The errors of all places of len sent symbols: those at the roots, elsewhere none. More than 16 roots there are only with marks.
-pub(crate) fn all_errors(s: &[u8], lambda: &[u8], len: usize, m: usize, roots: Roots) -> [u8; 255]
-    requires { (len ≤ 255) × (m ≤ 128) × (roots.count ≤ 32) × HoldsRoots lambda.now len roots.count roots.powers }
-    ensures { HoldsPlaces s.now lambda.now len m result }
-{
-    let Roots { count, powers } = roots;
-    let out = with_errors([0; 255], s, lambda, len, m, &powers, 0, count.min(16));
-    if count <= 16 {
-        return out;
+    // The errors at the roots from the first-th on, some of 16, put at their places.
+    fn with_errors(
+        &self,
+        before: [u8; 255],
+        powers: &[u8; 32],
+        first: usize,
+        some: usize,
+    ) -> [u8; 255]
+        requires { (first ≤ 16) × (some ≤ 16) × AreRoots self.now.lambda.now self.now.len powers.now (first + some) × Placed self.now.s.now self.now.lambda.now self.now.len self.now.m powers.now before first }
+        ensures { Placed self.now.s.now self.now.lambda.now self.now.len self.now.m powers.now result (first + some) }
+    {
+        let row = row_from(powers, first);
+        let errors = self.errors_at(&row);
+        let mut out = before;
+        for (c, power) in row[..some].iter().enumerate() {
+            let place = self.len - 1 - *power as usize;
+            out[place] = errors[c];
+        }
+        out
     }
-    with_errors(out, s, lambda, len, m, &powers, 16, count - 16)
+
+    // The errors of all places: those at the roots, elsewhere none. More than 16 roots there are only with marks.
+    pub(crate) fn all_errors(&self, roots: Roots) -> [u8; 255]
+        requires { (roots.count ≤ 32) × HoldsRoots self.now.lambda.now self.now.len roots.count roots.powers }
+        ensures { HoldsPlaces self.now.s.now self.now.lambda.now self.now.len self.now.m result }
+    {
+        let Roots { count, powers } = roots;
+        let out = self.with_errors([0; 255], &powers, 0, count.min(16));
+        if count <= 16 {
+            return out;
+        }
+        self.with_errors(out, &powers, 16, count - 16)
+    }
 }

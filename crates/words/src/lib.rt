@@ -19,8 +19,9 @@ ghost use Rattle.refusals.specs.Order.{Tells};
 ghost use Rattle.codewords.specs.Locators.{weight};
 ghost use Rattle.words.specs.Outcome.{LegalWord, WordOutcome, count_told, errors_told};
 
-use decoder::decode_word;
+use decoder::{WordCode, decode_word};
 use line::on_line;
+use marks::Marks;
 use syndromes::syndromes_of;
 
 // How many symbols differ from a good codeword, and what to add to each symbol sent to have it.
@@ -48,15 +49,17 @@ fn errors_of_legal(e: u32, s: u32, sent: &[u8]) -> Option<WordErrors>
 {
     let strength = e as usize;
     let sums = syndromes_of(strength, sent);
-    let marks = no_marks();
-    let decision = decode_word(
-        &marks[..sent.len()],
-        0,
-        &sums[..strength + strength],
-        128 - strength,
-        strength,
-        s as usize,
-    )?;
+    let unmarked = no_marks();
+    let marks = Marks {
+        marks: &unmarked[..sent.len()],
+        count: 0,
+    };
+    let code = WordCode {
+        m: 128 - strength,
+        e: strength,
+        s: s as usize,
+    };
+    let decision = decode_word(&marks, &sums[..strength + strength], code)?;
     Some(WordErrors {
         count: decision.unmarked as u32,
         errors: on_line(&decision.errors),

@@ -11,8 +11,8 @@ pub(crate) fn pair(p: &[u8], s: &[u8]) -> u8
     ensures { result ≡ dot (terms s.now) 0 p.now }
 {
     let mut sum: u8 = 0;
-    for (j, coefficient) in p.iter().enumerate() {
-        sum ^= field::mul(*coefficient, s[j]);
+    for (a, b) in p.iter().zip(s) {
+        sum ^= field::mul(*a, *b);
     }
     sum
 }

@@ -18,26 +18,6 @@ struct Thirds {
     third: [u8; 16],
 }
 
-// The parts of lambda, every third coefficient each, at the points.
-fn in_thirds(lambda: &[u8], parts: usize, points: &[u8; 16]) -> Thirds
-    requires { (length lambda.now ≡ 3 * parts) × (parts ≤ 11) }
-    ensures { InThirds lambda.now points.now result.first result.second result.third }
-{
-    let mut first: [u8; 16] = [0; 16];
-    let mut second: [u8; 16] = [0; 16];
-    let mut third: [u8; 16] = [0; 16];
-    for j in (0..parts).rev() {
-        first = with_symbol(&first, points, lambda[3 * j]);
-        second = with_symbol(&second, points, lambda[3 * j + 1]);
-        third = with_symbol(&third, points, lambda[3 * j + 2]);
-    }
-    Thirds {
-        first,
-        second,
-        third,
-    }
-}
-
 // The values at three places for each point: z is one of its cube roots, and its square stands beside it.
 fn joined(parts: Thirds, z: &[u8; 16], square: &[u8; 16]) -> Thirds
     ensures { Joined parts.first parts.second parts.third z.now square.now result.first result.second result.third 16 }
@@ -53,39 +33,11 @@ fn joined(parts: Thirds, z: &[u8; 16], square: &[u8; 16]) -> Thirds
     }
 }
 
-// The values at 16 places from `at` on, at those 85 further, and at those 170 further.
-fn values_at(lambda: &[u8], parts: usize, at: usize) -> Thirds
-    requires { (length lambda.now ≡ 3 * parts) × (parts ≤ 11) × (at + 16 ≤ 96) }
-    ensures { Filled (values_from lambda.now at) 16 result.first 16 × Filled (values_from lambda.now (85 + at)) 16 result.second 16 × Filled (values_from lambda.now (170 + at)) 16 result.third 16 }
-{
-    let points = row_from(&CUBES, at);
-    let parted = in_thirds(lambda, parts, &points);
-    let z = row_from(&LOCATORS, at);
-    let square = row_from(&SQUARES, at);
-    joined(parted, &z, &square)
-}
-
 fn put_row(values: &mut [u8], at: usize, row: &[u8; 16])
     requires { at + 16 ≤ length values.old }
     ensures { RowPut at row.now values.old values.new }
 {
     values[at..at + 16].copy_from_slice(row);
-}
-
-// The values at all places. Rows overlap there, and have the same values where they do.
-fn values_everywhere(lambda: &[u8], parts: usize) -> [u8; 288]
-    requires { (length lambda.now ≡ 3 * parts) × (parts ≤ 11) }
-    ensures { Filled (values_from lambda.now 0) 288 result 266 }
-{
-    let mut values = [0u8; 288];
-    for row in 0usize..6 {
-        let at = 16 * row;
-        let found = values_at(lambda, parts, at);
-        put_row(&mut values, at, &found.first);
-        put_row(&mut values, 85 + at, &found.second);
-        put_row(&mut values, 170 + at, &found.third);
-    }
-    values
 }
 
 // How many roots were found, and which powers of beta the first 32 of them are: an array and a number, since the library has no heap.
@@ -107,20 +59,77 @@ impl Roots {
     }
 }
 
-// The places of len sent symbols, the last first, since powers count from the end: a place of the fill is never looked at.
-pub(crate) fn find_roots(lambda: &[u8], parts: usize, len: usize) -> Roots
-    requires { (length lambda.now ≡ 3 * parts) × (parts ≤ 11) × (len ≤ 255) }
-    ensures { HoldsRoots lambda.now len result.count result.powers }
-{
-    let values = values_everywhere(lambda, parts);
-    let mut found = Roots {
-        count: 0,
-        powers: [0; 32],
-    };
-    for (power, value) in values[..len].iter().enumerate() {
-        if *value == 0 {
-            found.put(power);
+// A polynomial of so many coefficients in each of three parts.
+#[derive(Clone, Copy)]
+pub(crate) struct Parted<'a> {
+    pub(crate) lambda: &'a [u8],
+    pub(crate) parts: usize,
+    ghost whole: { length lambda.now ≡ 3 * parts },
+    ghost few: { parts ≤ 11 },
+}
+
+impl Parted<'_> {
+    // The parts, every third coefficient each, at the points.
+    fn in_thirds(&self, points: &[u8; 16]) -> Thirds
+        ensures { InThirds self.now.lambda.now points.now result.first result.second result.third }
+    {
+        let mut first: [u8; 16] = [0; 16];
+        let mut second: [u8; 16] = [0; 16];
+        let mut third: [u8; 16] = [0; 16];
+        for j in (0..self.parts).rev() {
+            first = with_symbol(&first, points, self.lambda[3 * j]);
+            second = with_symbol(&second, points, self.lambda[3 * j + 1]);
+            third = with_symbol(&third, points, self.lambda[3 * j + 2]);
+        }
+        Thirds {
+            first,
+            second,
+            third,
         }
     }
-    found
+
+    // The values at 16 places from `at` on, at those 85 further, and at those 170 further.
+    fn values_at(&self, at: usize) -> Thirds
+        requires { at + 16 ≤ 96 }
+        ensures { Filled (values_from self.now.lambda.now at) 16 result.first 16 × Filled (values_from self.now.lambda.now (85 + at)) 16 result.second 16 × Filled (values_from self.now.lambda.now (170 + at)) 16 result.third 16 }
+    {
+        let points = row_from(&CUBES, at);
+        let parted = self.in_thirds(&points);
+        let z = row_from(&LOCATORS, at);
+        let square = row_from(&SQUARES, at);
+        joined(parted, &z, &square)
+    }
+
+    // The values at all places. Rows overlap there, and have the same values where they do.
+    fn values_everywhere(&self) -> [u8; 288]
+        ensures { Filled (values_from self.now.lambda.now 0) 288 result 266 }
+    {
+        let mut values = [0u8; 288];
+        for row in 0usize..6 {
+            let at = 16 * row;
+            let found = self.values_at(at);
+            put_row(&mut values, at, &found.first);
+            put_row(&mut values, 85 + at, &found.second);
+            put_row(&mut values, 170 + at, &found.third);
+        }
+        values
+    }
+
+    // The places of len sent symbols, the last first, since powers count from the end: a place of the fill is never looked at.
+    pub(crate) fn find_roots(&self, len: usize) -> Roots
+        requires { len ≤ 255 }
+        ensures { HoldsRoots self.now.lambda.now len result.count result.powers }
+    {
+        let values = self.values_everywhere();
+        let mut found = Roots {
+            count: 0,
+            powers: [0; 32],
+        };
+        for (power, value) in values[..len].iter().enumerate() {
+            if *value == 0 {
+                found.put(power);
+            }
+        }
+        found
+    }
 }

@@ -5,8 +5,8 @@ use Rattle.words.proofs.Arrays.{zero-at}
 use Rattle.words.proofs.Decisions.{too_many_by, unchanged_by}
 use Rattle.words.proofs.decoder.decode_word.Goals as goal
 
-pub returns-then-f-s : goal.returns-then-f-s
-returns-then-f-s c = (omega arith, too_many_by _ _ _ _ (omega arith) (omega arith) (omega arith) _ _ _ _ refl refl (zero-at 255) (omega arith))
+pub returns-then-marks-code : goal.returns-then-marks-code
+returns-then-marks-code c = (omega arith, too_many_by _ _ _ _ (omega arith) (omega arith) (omega arith) _ _ _ _ refl refl (zero-at 255) (omega arith))
 
 pub returns-then-untouched : goal.returns-then-untouched
 returns-then-untouched c =

@@ -1,8 +1,7 @@
 -- `errors_found`: the register is too long, the roots are too few, or what the roots give is the one good codeword.
-use mathlib.Core.Path.{refl, sym}
+use mathlib.Core.Path.{refl}
 use Prim.Native.Nat.{ℕ, ◌+◌, ◌*◌, ◌/◌}
 use native.Mathlib.Omega.{arith}
-use lib.Seq.{length-take-le}
 use borrow.Author.Rules.{rules}
 use Rattle.words.proofs.Arrays.{zero-at}
 use Rattle.words.proofs.Decisions.{too_far_by, too_few_by, decided_by}
@@ -18,26 +17,17 @@ returns-then-len-f c = (
   too_far_by _ _ _ _ (omega arith) (omega arith) (omega arith) _ _ _ _ refl refl (zero-at 255) (omega arith) _ _ c.unmarked_locator-locator.ensures (omega arith),
 )
 
-pub slice_bounds-find_roots-end : goal.slice_bounds-find_roots-end
-slice_bounds-find_roots-end c = sym (length-take-le _ _ (omega (arith, c.times_marks-lambda.ensures.size)))
-
-pub find_roots-roots-requires : goal.find_roots-roots-requires
-find_roots-roots-requires c = (length-take-le _ _ (omega (arith, c.times_marks-lambda.ensures.size)), omega arith, omega arith)
-
 pub returns-then-roots-len : goal.returns-then-roots-len
 returns-then-roots-len c = (
   omega arith,
   too_few_by _ _ _ _ (omega arith) (omega arith) (omega arith) _ _ _ _ refl refl (zero-at 255) (omega arith) _ _ c.unmarked_locator-locator.ensures (omega arith)
-      _ c.times_marks-lambda.ensures (cut c.unmarked_locator-locator.result.len c.args.f) _ _ c.find_roots-roots.ensures (omega arith) (search rules),
+      _ c.times_marks-product.ensures (cut c.unmarked_locator-locator.result.len c.args.marks.now.count) _ _ c.find_roots-roots.ensures (omega arith) (search rules),
 )
-
-pub slice_bounds-all_errors-end : goal.slice_bounds-all_errors-end
-slice_bounds-all_errors-end c = sym (length-take-le _ _ (omega (arith, c.times_marks-lambda.ensures.size)))
 
 pub returns : goal.returns
 returns c = (
   omega arith,
   decided_by _ _ _ _ (omega arith) (omega arith) (omega arith) _ _ _ c.unmarked_locator-locator.ensures (omega arith) _
-      c.times_marks-lambda.ensures
-      (cut c.unmarked_locator-locator.result.len c.args.f) _ _ c.find_roots-roots.ensures (omega arith) _ c.all_errors.ensures (search rules),
+      c.times_marks-product.ensures
+      (cut c.unmarked_locator-locator.result.len c.args.marks.now.count) _ _ c.find_roots-roots.ensures (omega arith) _ c.all_errors.ensures (search rules),
 )

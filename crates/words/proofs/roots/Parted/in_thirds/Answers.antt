@@ -2,10 +2,10 @@
 use mathlib.Core.Path.{◌≡◌, refl}
 use native.Mathlib.Omega.{arith}
 use Rattle.words.proofs.Thirds.{thirds_start, thirds_turn}
-use Rattle.words.proofs.roots.in_thirds.Goals as goal
+use Rattle.words.proofs.roots.Parted.in_thirds.Goals as goal
 
 pub loop-j-init : goal.loop-j-init
-loop-j-init c = thirds_start c.args.lambda.now _ _ c.requires.0
+loop-j-init c = thirds_start c.args.self.now.lambda.now _ _ c.args.self.now.whole
 
 pub loop-j-preserved : goal.loop-j-preserved
 loop-j-preserved c =

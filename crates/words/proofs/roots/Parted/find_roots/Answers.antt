@@ -2,8 +2,8 @@
 use Rattle.std.proofs.Common.{arith, ◌≡◌, sym, ◌∙◌, refl, length, take, get_or}
 use lib.Seq.{length-take-le, get_or-take}
 use Rattle.words.proofs.RootsFound.{value_is, roots_start, roots_none, roots_more}
-use Rattle.words.proofs.roots.find_roots.Goals as goal
-use Rattle.words.proofs.roots.find_roots.Goals.{then-value-eq0, else-value-eq0}
+use Rattle.words.proofs.roots.Parted.find_roots.Goals as goal
+use Rattle.words.proofs.roots.Parted.find_roots.Goals.{then-value-eq0, else-value-eq0}
 
 pub loop-power-init : goal.loop-power-init
 loop-power-init c = roots_start _ _ _ refl refl
