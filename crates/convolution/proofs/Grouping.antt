@@ -3,22 +3,18 @@ use mathlib.Core.Path.{◌≡◌, refl, sym, ap, ap₂, ◌∙◌, subst}
 use mathlib.Core.Bool.{Bool}
 use mathlib.Core.Logic.{◌⊎◌, inl, inr}
 use mathlib.Core.List.{List, [], ◌∷◌, ◌++◌}
-use Prim.Native.Nat.{ℕ, zero, suc, ◌-◌, ◌*◌, ◌/◌, ◌%◌, ◌^◌, ◌≤◌, ◌<◌}
+use Prim.Native.Nat.{ℕ, zero, suc, ◌*◌, ◌/◌, ◌%◌, ◌^◌, ◌≤◌, ◌<◌}
 use native.Mathlib.Nat.{mod-lt, le_refl}
 use native.Mathlib.Omega.{arith}
 use lib.Pow.{pow_pos}
 use lib.Dec.{T, ltb, leb→le}
-use lib.ListN.{get_or}
 use lib.Bits.{bit_xor, xor_mod, xor_shr, xor_lt, xor_zero_r}
 use Rattle.field.proofs.Below.{both, both_left, both_right, all_below, at-below}
-use Rattle.refusals.specs.Order.{OneOf}
-use Rattle.refusals.specs.Sizes.{rates}
 use Rattle.convolution.specs.declared.Group.{Group}
 use Rattle.convolution.specs.Coder.{low_bits, sent, c1_patterns, c2_patterns, pattern_at, next_place, place_after}
 use Rattle.convolution.specs.Working.{patterns_from, picked_from}
 use Rattle.convolution.specs.GroupWorking.{moved_up, spread_by, symbols_by, Grouped}
 use Rattle.convolution.proofs.Bits.{low_first, low_mod}
-use Rattle.convolution.proofs.Count.{each_rate}
 use Rattle.convolution.proofs.AtOnce.{place_by_count}
 use Rattle.convolution.proofs.Moving.{by_units, symbols-sum, symbols_low}
 use Rattle.convolution.proofs.Tables.{same, same_lists}
@@ -251,11 +247,3 @@ five =
 pub grouped_5 : Grouped 5 five
 unfolding moved_up spread_by symbols_by
 grouped_5 = grouped 5 five tt (omega arith) (omega arith) (omega arith) (omega arith) (omega arith) (omega arith) (inr refl) refl
-
--- ---- the table's rows, one for each punctured rate
-
-pub listed_group : (rate : ℕ) (d : Group) → OneOf rates rate → (rate ≡ 1 → ⊥) → Grouped rate (get_or (two ∷ three ∷ four ∷ five ∷ []) (rate - 2) d)
-listed_group rate d legal =
-    each_rate (λ r. (r ≡ 1 → ⊥) → Grouped r (get_or (two ∷ three ∷ four ∷ five ∷ []) (r - 2) d))
-    (λ n. absurd (n refl)) (λ n. grouped_2) (λ n. grouped_3) (λ n. grouped_4) (λ n. grouped_5)
-    rate legal

@@ -47,7 +47,7 @@ fn groups_in(pattern: &Pattern, octets: &[u8], symbols: &mut [u8], start: Flow) 
         written: 0,
     };
     while at.read < octets.len() {
-        at = pattern.turn(group, octets, symbols, at);
+        at = pattern.turn(&group, octets, symbols, at);
     }
     at.flow
 }

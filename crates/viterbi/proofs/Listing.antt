@@ -1,4 +1,4 @@
--- The table of branch costs: that a list has them all, by a computed test.
+-- The table of branch costs: that a list has them all, for each pair and each two registers, by a computed test.
 use mathlib.Core.Path.{◌≡◌}
 use mathlib.Core.Bool.{Bool}
 use mathlib.Core.List.{List}
@@ -7,7 +7,7 @@ use native.Mathlib.Omega.{arith}
 use lib.Dec.{T, eqb, eqb→eq, leb, leb→le}
 use lib.ListN.{get_or}
 use Rattle.field.proofs.Below.{both, both_left, both_right, all_below, at-below}
-use Rattle.viterbi.specs.Working.{turned, pair_branch, Serves, Costs}
+use Rattle.viterbi.specs.Working.{turned, pair_branch, Serves}
 
 unfoldable pub serving : ℕ → ℕ → ℕ → Bool
 serving pair k cost =
@@ -36,12 +36,9 @@ serves pair k cost t =
       one_odd = eqb→eq cost (pair_branch pair (turned (2 * k + 1)) 1) (both_right zero_odd one_odd t3);
     }
 
-pub costs_listed : (list : List ℕ) → T (all_below 128 (λ n. serving (n / 32) (n % 32) (get_or list n 0))) → Costs list
-costs_listed list t = record { each = each }
-  where
-    each : (pair k : ℕ) → pair < 4 → k < 32 → Serves pair k (get_or list (32 * pair + k) 0)
-    each pair k p h =
-        let n = 32 * pair + k in
-        let front : n / 32 ≡ pair = omega arith in
-        let back : n % 32 ≡ k = omega arith in
-        rw (front, back) at (serves (n / 32) (n % 32) (get_or list n 0) (at-below (λ n. serving (n / 32) (n % 32) (get_or list n 0)) 128 t n (omega arith)))
+pub costs_listed : (list : List ℕ) → T (all_below 128 (λ n. serving (n / 32) (n % 32) (get_or list n 0))) → (pair k : ℕ) → pair < 4 → k < 32 → Serves pair k (get_or list (32 * pair + k) 0)
+costs_listed list t pair k p h =
+    let n = 32 * pair + k in
+    let front : n / 32 ≡ pair = omega arith in
+    let back : n % 32 ≡ k = omega arith in
+    rw (front, back) at (serves (n / 32) (n % 32) (get_or list n 0) (at-below (λ n. serving (n / 32) (n % 32) (get_or list n 0)) 128 t n (omega arith)))

@@ -5,28 +5,27 @@ use Prim.Native.Nat.{ℕ, ◌+◌, ◌*◌}
 use native.Mathlib.Omega.{arith}
 use lib.ListN.{length, get_or}
 use Rattle.refusals.specs.Order.{FirstOf}
-use Rattle.refusals.specs.Numbers.{verdict_number}
+use Rattle.refusals.specs.Numbers.{parameter_number}
 use Rattle.refusals.specs.Calls.{likeliest_order}
 use Rattle.refusals.specs.declared.Parameter.{Parameter}
-use Rattle.refusals.specs.declared.Verdict.{Verdict}
-use Rattle.refusals.specs.declared.Verdict.TheVariants as verdict
-use Rattle.refusals.proofs.Verdicts.{same_verdict, parameter_nonzero}
+use Rattle.refusals.proofs.Verdicts.{parameter_nonzero}
 use Rattle.refusals.proofs.Legal.{accepted_likeliest}
 use Rattle.convolution.specs.Coder.{bits_of}
 use Rattle.convolution.proofs.Bits.{bits-length}
 use Rattle.viterbi.specs.Likeliest.{places, Best}
 use Rattle.viterbi.specs.Outcome.{LikeliestOutcome}
-use Rattle.viterbi.specs.declared.Sought.TheVariants.{Found, Refused}
+use Rattle.std.specs.Prelude.{Ok, Err}
+use Rattle.viterbi.specs.declared.found.Likeliest.{Likeliest}
 use Rattle.viterbi.specs.Working.{turned, to_go, path, ToGo, Walked}
 use Rattle.viterbi.proofs.Octets.{bits_of_lem}
 use Rattle.viterbi.proofs.Coding.{cost}
 use Rattle.viterbi.proofs.Optimal.{lower, path-cost, path-first}
 
-pub refused_as_checked : (register : ℕ) (received before : List ℕ) (v : Verdict) (p : Parameter) → v ≡ verdict.Refused p →
-    FirstOf (likeliest_order register (length received) (length before)) (verdict_number v) → LikeliestOutcome register received before (Refused p) before
-refused_as_checked register received before v p e f =
+pub refused_as_checked : (register : ℕ) (received before : List ℕ) (p : Parameter) →
+    FirstOf (likeliest_order register (length received) (length before)) (parameter_number p) → LikeliestOutcome register received before (Err p) before
+refused_as_checked register received before p f =
     record {
-      number = same_verdict (likeliest_order register (length received) (length before)) v (verdict.Refused p) e f;
+      number = f;
       refused = λ n. refl;
       octets = λ z. absurd (parameter_nonzero p z);
       long = λ z. refl;
@@ -56,7 +55,7 @@ pub path_found : (register : ℕ) (received before after costs : List ℕ) (base
     ToGo (bits_of received) 0 base costs →
     place ≡ turned register →
     Walked (bits_of received) register before after end →
-    LikeliestOutcome register received before (Found (base + get_or costs place 0) end) after
+    LikeliestOutcome register received before (Ok (record { places = base + get_or costs place 0; register = end })) after
 path_found register received before after costs base place end f c e w =
     let legal = accepted_likeliest register (length received) (length before) f in
     let double : length received ≡ 2 * length after = omega (arith, legal.even, legal.half, w.long) in

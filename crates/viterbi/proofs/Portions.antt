@@ -14,8 +14,7 @@ use Rattle.convolution.specs.Coder.{bits_of, symbols_from, register_after, place
 use Rattle.convolution.proofs.Bits.{bits-append, bits-length}
 use Rattle.convolution.proofs.Symbols.{symbols-append, register-append}
 use Rattle.convolution.proofs.Calls.{Calls}
-use Rattle.viterbi.specs.declared.Sought.{Sought}
-use Rattle.viterbi.specs.Outcome.{sought_number, sought_register, LikeliestOutcome}
+use Rattle.viterbi.specs.Outcome.{Sought, sought_number, sought_register, LikeliestOutcome}
 use Rattle.viterbi.proofs.Octets.{nothing, octets-taken, octets_dropped}
 use Rattle.viterbi.proofs.Returning.{coded-length, coded_double, coded_found, written_symbols, register_reached}
 

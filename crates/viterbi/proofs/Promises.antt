@@ -9,9 +9,8 @@ use Rattle.codewords.specs.Words.{Octets}
 use Rattle.convolution.specs.Coder.{bits_of, next_register, filled}
 use Rattle.convolution.proofs.Bits.{bits-length}
 use Rattle.convolution.proofs.Packing.{AreBits}
-use Rattle.viterbi.specs.declared.Sought.{Sought}
 use Rattle.viterbi.specs.Likeliest.{places, Best}
-use Rattle.viterbi.specs.Outcome.{sought_number, sought_places, LikeliestOutcome}
+use Rattle.viterbi.specs.Outcome.{Sought, sought_number, sought_places, LikeliestOutcome}
 use Rattle.viterbi.specs.Working.{via, choice, path}
 use Rattle.viterbi.proofs.Octets.{filled-octets, filled-bits}
 use Rattle.viterbi.proofs.Coding.{chosen_bit}

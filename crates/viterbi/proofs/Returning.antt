@@ -20,10 +20,10 @@ use Rattle.convolution.proofs.Count.{symbol_count_lem}
 use Rattle.convolution.proofs.Packing.{AreBits, symbols-bits}
 use Rattle.convolution.proofs.Outcomes.{legal}
 use Rattle.convolution.proofs.Calls.{Calls, one, more, calls_joined}
-use Rattle.viterbi.specs.declared.Sought.{Sought}
-use Rattle.viterbi.specs.declared.Sought.TheVariants.{Found}
+use Rattle.std.specs.Prelude.{Ok}
+use Rattle.viterbi.specs.declared.found.Likeliest.{Likeliest}
 use Rattle.viterbi.specs.Likeliest.{places}
-use Rattle.viterbi.specs.Outcome.{sought_number, sought_register, LikeliestOutcome}
+use Rattle.viterbi.specs.Outcome.{Sought, sought_number, sought_register, LikeliestOutcome}
 use Rattle.viterbi.proofs.Octets.{bits_of_lem, known_by_bits, filled-bits}
 use Rattle.viterbi.proofs.Settled.{sought_known, likeliest_settled}
 
@@ -67,14 +67,14 @@ module _ (register : ℕ) (input received : List ℕ) (coded : bits_of received 
   none_wrong = ap (differing (symbols_from 1 register 0 (bits_of input))) coded ∙ differing_self (symbols_from 1 register 0 (bits_of input))
 
   pub coded_found : Octets input → (before : List ℕ) (answer : Sought) (after : List ℕ) → LikeliestOutcome register received before answer after → sought_number answer ≡ 0 → length before ≡ length input →
-      (answer ≡ Found 0 (register_after register (bits_of input))) × (after ≡ input)
+      (answer ≡ Ok (record { places = 0; register = register_after register (bits_of input) })) × (after ≡ input)
   coded_found octets before answer after o z l =
       let none : places register received after ≡ 0 = omega (arith, none_wrong, (o.best z).least input (sym l ∙ sym (o.long z))) in
       let same : after ≡ input =
       known_by_bits after input (o.octets z) octets
       (symbols_known register (bits_of after) (bits_of input) (bits_of_lem after) (bits_of_lem input) (omega (arith, bits-length after, bits-length input, o.long z))
       (differing_none _ _ none ∙ coded)) in (
-        sought_known answer (Found 0 (register_after register (bits_of input))) z (λ y. o.differing z ∙ none) (λ y. o.reached z ∙ ap (λ (x : List ℕ). register_after register (bits_of x)) same),
+        sought_known answer (Ok (record { places = 0; register = register_after register (bits_of input) })) z (λ y. o.differing z ∙ none) (λ y. o.reached z ∙ ap (λ (x : List ℕ). register_after register (bits_of x)) same),
         same,
       )
 
@@ -90,9 +90,9 @@ coded_accepted register received before n h l d f =
 
 -- The coder's first call was accepted, so its state was legal.
 start_legal : (s : State) {input written : List ℕ} {count : ℕ} {t : State} → Calls 1 s input written count t → LegalCoder 1 s.register s.place s.holds
-start_legal s (one octets before r after o z) =
+start_legal s (one octets before answer u after o z) =
     (legal 1 s (length octets) (length before) (subst (FirstOf (convolve_order 1 s.register s.place s.holds (length octets) (length before))) z o.number)).coder
-start_legal s (more octets before r after calls o z) = start_legal s calls
+start_legal s (more octets before answer u after calls o z) = start_legal s calls
 
 -- From a state that holds nothing the calls write just the symbols of their input, and lead to the register that it leads to.
 module _ (s : State) (input written : List ℕ) (count : ℕ) (t : State) (calls : Calls 1 s input written count t) (nothing : s.holds ≡ 0) where
@@ -109,12 +109,12 @@ module _ (s : State) (input written : List ℕ) (count : ℕ) (t : State) (calls
 
   module _ (octets : Octets input) where
     pub coded_comes_back : (before : List ℕ) (answer : Sought) (after : List ℕ) → length input ≤ 256 → length before ≡ length input → LikeliestOutcome s.register written before answer after →
-        (answer ≡ Found 0 t.register) × (after ≡ input)
+        (answer ≡ Ok (record { places = 0; register = t.register })) × (after ≡ input)
     coded_comes_back before answer after few l o =
         let double = coded_double s.register input written written_symbols in
         let accepted = coded_accepted s.register written before (sought_number answer) (start_legal s calls).register (omega arith) (omega arith) o.number in
         let found = coded_found s.register input written written_symbols octets before answer after o accepted l in
-        (found.0 ∙ ap (Found 0) (sym register_reached), found.1)
+        (found.0 ∙ ap (λ (r : ℕ). Ok (record { places = 0; register = r })) (sym register_reached), found.1)
 
     -- So whatever comes next is decoded from the register reached as from the coder's own.
     pub register_handed_on : (before : List ℕ) (answer : Sought) (after : List ℕ) → length input ≤ 256 → length before ≡ length input → LikeliestOutcome s.register written before answer after →

@@ -11,10 +11,10 @@ use Rattle.refusals.proofs.Settled.{parameter_known}
 use Rattle.codewords.specs.Words.{Octets}
 use Rattle.convolution.specs.Coder.{bits_of, register_after}
 use Rattle.convolution.proofs.Bits.{bits-length}
-use Rattle.viterbi.specs.declared.Sought.{Sought}
-use Rattle.viterbi.specs.declared.Sought.TheVariants.{Found, Refused}
+use Rattle.std.specs.Prelude.{Ok, Err}
+use Rattle.viterbi.specs.declared.found.Likeliest.{Likeliest}
 use Rattle.viterbi.specs.Likeliest.{places, Best}
-use Rattle.viterbi.specs.Outcome.{sought_number, sought_places, sought_register, LikeliestOutcome}
+use Rattle.viterbi.specs.Outcome.{Sought, sought_number, sought_places, sought_register, LikeliestOutcome}
 use Rattle.viterbi.proofs.Octets.{known_by_bits}
 use Rattle.viterbi.proofs.Optimal.{first-both}
 
@@ -32,14 +32,14 @@ best_unique register received one other p q l a b =
 -- An answer is known by its number, its places and its register.
 pub sought_known : (a b : Sought) → sought_number a ≡ sought_number b → (sought_number a ≡ 0 → sought_places a ≡ sought_places b) → (sought_number a ≡ 0 → sought_register a ≡ sought_register b) →
     a ≡ b
-sought_known (Found m r) (Found n q) e p s = ap₂ Found (p refl) (s refl)
-sought_known (Found m r) (Refused q) e p s = absurd (parameter_nonzero q (sym e))
-sought_known (Refused q) (Found n r) e p s = absurd (parameter_nonzero q e)
-sought_known (Refused p) (Refused q) e m r = ap Refused (parameter_known p q e)
+sought_known (Ok m) (Ok n) e p s = ap₂ (λ (x y : ℕ). Ok (record { places = x; register = y })) (p refl) (s refl)
+sought_known (Ok m) (Err q) e p s = absurd (parameter_nonzero q (sym e))
+sought_known (Err q) (Ok n) e p s = absurd (parameter_nonzero q e)
+sought_known (Err p) (Err q) e m r = ap Err (parameter_known p q e)
 
 either_way : {A : Type 0} {x y : A} (a : Sought) → (sought_number a ≡ 0 → x ≡ y) → ((sought_number a ≡ 0 → ⊥) → x ≡ y) → x ≡ y
-either_way (Found m r) accepted refused = accepted refl
-either_way (Refused p) accepted refused = refused (parameter_nonzero p)
+either_way (Ok found) accepted refused = accepted refl
+either_way (Err p) accepted refused = refused (parameter_nonzero p)
 
 module _ (register : ℕ) (received before after after' : List ℕ) (a b : Sought) where
   pub likeliest_settled : LikeliestOutcome register received before a after → LikeliestOutcome register received before b after' → (a ≡ b) × (after ≡ after')

@@ -52,10 +52,6 @@ pub record Serves (pair k cost : ℕ) : Type 0 where
   pub zero_odd : 2 - cost ≡ pair_branch pair (turned (2 * k + 1)) 0
   pub one_odd : cost ≡ pair_branch pair (turned (2 * k + 1)) 1
 
--- So the list has it for each pair and each two registers.
-pub record Costs (list : List ℕ) : Type 0 where
-  pub each : (pair k : ℕ) → pair < 4 → k < 32 → Serves pair k (get_or list (32 * pair + k) 0)
-
 -- The cost to go one bit earlier by way of a bit, from the costs behind it.
 abbrev pub by : List ℕ → ℕ → ℕ → ℕ → ℕ
 by costs pair register bit = pair_branch pair register bit + of_register costs (next_register register bit)

@@ -3,23 +3,19 @@
 
 mod back;
 mod costs;
+mod found;
 mod steps;
 mod turning;
 mod walk;
 
 ghost use Rattle.viterbi.specs.Outcome.{LikeliestOutcome};
 
+pub use found::Likeliest;
+
 use back::rows_back;
-use refusals::{Parameter, Verdict};
+use refusals::Parameter;
 use turning::turned;
 use walk::walk;
-
-#[derive(Clone, Copy)]
-pub enum Sought {
-    // The number of differing places, and the register reached.
-    Found { places: u32, register: u32 },
-    Refused(Parameter),
-}
 
 // The costs to go of the 64 registers above a base, and the ways that have them, as far as they are gathered.
 #[derive(Clone, Copy)]
@@ -35,21 +31,17 @@ struct Start {
     base: u32,
 }
 
-pub fn likeliest(register: u32, symbols: &[u8], data: &mut [u8]) -> Sought
+pub fn likeliest(register: u32, symbols: &[u8], data: &mut [u8]) -> Result<Likeliest, Parameter>
     ensures { LikeliestOutcome register symbols.now «data».old result «data».new }
 {
-    let checked = refusals::likeliest_parameters(register, symbols.len(), data.len());
-    if let Verdict::Refused(parameter) = checked {
-        return Sought::Refused(parameter);
-    }
+    refusals::likeliest_parameters(register, symbols.len(), data.len())?;
     let mut rows = [[0u8; 64]; 256];
     let start = rows_back(symbols, &mut rows);
-    let costs = start.costs;
-    let from = register as usize;
-    let places = start.base + costs[turned(from)] as u32;
+    let from = register as u8;
+    let places = start.base + u32::from(start.costs[turned(from)]);
     let reached = walk(symbols, &rows, from, data);
-    Sought::Found {
-        places: places,
-        register: reached as u32,
-    }
+    Ok(Likeliest {
+        places,
+        register: u32::from(reached),
+    })
 }

@@ -6,21 +6,15 @@ ghost use Rattle.viterbi.specs.Working.{Rows, Walked};
 use crate::turning::turned;
 
 // The last six bits of an octet are the register behind it.
-pub(crate) fn walk(
-    symbols: &[u8],
-    rows: &[[u8; 64]; 256],
-    register: usize,
-    data: &mut [u8],
-) -> usize
+pub(crate) fn walk(symbols: &[u8], rows: &[[u8; 64]; 256], register: u8, data: &mut [u8]) -> u8
     requires { (length symbols.now ≤ 512) × (2 * length «data».old ≡ length symbols.now) × (register < 64) × Rows (bits_of symbols.now) 0 (length symbols.now / 2) rows.now }
     ensures { (result < 64) × Walked (bits_of symbols.now) register «data».old «data».new result }
 {
-    let n = symbols.len() / 2;
     let mut at = register;
-    for i in 0..n {
-        let octet = rows[i][turned(at)];
+    for (i, row) in rows[..symbols.len() / 2].iter().enumerate() {
+        let octet = row[turned(at)];
         data[i] = octet;
-        at = (octet % 64) as usize;
+        at = octet % 64;
     }
     at
 }

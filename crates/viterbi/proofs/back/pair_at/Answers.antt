@@ -5,4 +5,4 @@ use Rattle.viterbi.proofs.back.pair_at.Goals as goal
 
 pub returns : goal.returns
 returns c =
-    pair_of c.args.symbols.now c.args.t _ (omega arith) (omega arith) (λ z. rw z) (λ z. rw z) (λ z. rw z) (λ z. rw z (omega arith))
+    pair_of c.args.symbols.now c.args.t _ (omega arith) (omega arith) (λ z. rw (c.from.ensures, z)) (λ z. rw (c.from.ensures, z)) (λ z. rw (c.from.ensures, z)) (λ z. rw (c.from.ensures, z) (omega arith))

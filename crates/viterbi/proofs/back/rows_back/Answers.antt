@@ -13,7 +13,7 @@ loop-i-init c = (omega arith, search rules, none_to_go c.args.symbols.now c.requ
 
 pub octet_back-front-requires : goal.octet_back-front-requires
 octet_back-front-requires c =
-    (c.cost_list-list.ensures, c.requires.0, omega arith, c.loop-i.invariant.3)
+    (c.requires.0, omega arith, c.loop-i.invariant.3)
 
 pub lowered-costs-requires : goal.lowered-costs-requires
 lowered-costs-requires c =
@@ -37,7 +37,7 @@ loop-i-preserved c =
     let taken = c.spare-taken.ensures.1 in (
       omega arith,
       simp length-set l.invariant.1,
-      lowered_to_go _ _ _ _ front.cost _ taken _ c.lowered-costs.ensures,
+      rw c.from-base.ensures (lowered_to_go _ _ _ _ front.cost _ taken _ c.lowered-costs.ensures),
       below_lowered _ _ _ _ front.cost _ taken _ c.lowered-costs.ensures o.ensures.0,
       rows_more (bits_of s) (l.i - 1) _ _ _ _ (omega arith) front (rows_at (bits_of s) l.i (l.i - 1 + 1) _ _ (omega arith) l.invariant.4),
     )

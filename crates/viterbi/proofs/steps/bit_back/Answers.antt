@@ -9,22 +9,22 @@ pub loop-k-init : goal.loop-k-init
 loop-k-init c = (omega arith, filled_none _ _ refl, filled_none _ _ refl)
 
 pub overflow_add-one_way-in-loop-k : goal.overflow_add-one_way-in-loop-k
-overflow_add-one_way-in-loop-k c = omega (arith, c.requires.4.at (c.loop-k.k + 32) (omega arith))
+overflow_add-one_way-in-loop-k c = omega (arith, c.requires.3.at (c.loop-k.k + 32) (omega arith))
 
 pub overflow_sub-y : goal.overflow_sub-y
 overflow_sub-y c = omega (arith, c.cost_at-x.ensures.most)
 
 pub overflow_add-even_zero : goal.overflow_add-even_zero
-overflow_add-even_zero c = omega (arith, c.cost_at-x.ensures.most, c.requires.3.at c.loop-k.k (omega arith))
+overflow_add-even_zero c = omega (arith, c.cost_at-x.ensures.most, c.requires.2.at c.loop-k.k (omega arith))
 
 pub overflow_add-even_one : goal.overflow_add-even_one
-overflow_add-even_one c = omega (arith, c.cost_at-x.ensures.most, c.requires.3.at (c.loop-k.k + 32) (omega arith))
+overflow_add-even_one c = omega (arith, c.cost_at-x.ensures.most, c.requires.2.at (c.loop-k.k + 32) (omega arith))
 
 pub overflow_add-odd_zero : goal.overflow_add-odd_zero
-overflow_add-odd_zero c = omega (arith, c.cost_at-x.ensures.most, c.requires.3.at c.loop-k.k (omega arith))
+overflow_add-odd_zero c = omega (arith, c.cost_at-x.ensures.most, c.requires.2.at c.loop-k.k (omega arith))
 
 pub overflow_add-odd_one : goal.overflow_add-odd_one
-overflow_add-odd_one c = omega (arith, c.cost_at-x.ensures.most, c.requires.3.at (c.loop-k.k + 32) (omega arith))
+overflow_add-odd_one c = omega (arith, c.cost_at-x.ensures.most, c.requires.2.at (c.loop-k.k + 32) (omega arith))
 
 pub loop-k-preserved : goal.loop-k-preserved
 loop-k-preserved c =
@@ -34,8 +34,8 @@ loop-k-preserved c =
     let inv = c.loop-k.invariant in (
       omega arith,
       filled-two _ _ _ _ _ k
-          (c.cheaper.ensures ∙ even_cost args.column args.pair args.weight _ _ k serves)
-          (c.cheaper-in-loop-k.ensures ∙ odd_cost args.column args.pair args.weight _ _ k serves)
+          (c.min.ensures ∙ even_cost args.column args.pair args.weight _ _ k serves)
+          (c.min-in-loop-k.ensures ∙ odd_cost args.column args.pair args.weight _ _ k serves)
           inv.1,
       filled-two _ _ _ _ _ k
           (c.way_of_cheaper.ensures ∙ even_way args.column args.pair args.weight _ _ k serves)
