@@ -1,9 +1,9 @@
 // Encoding of a whole frame: its words' checks, and the block with frame and checks.
-ghost use Rattle.std.specs.Prelude.{◌≡◌, List, ℕ, ◌+◌, ◌*◌, ◌≤◌, ◌<◌, length};
+ghost use Rattle.std.specs.Prelude.{length};
 ghost use Rattle.check_rows.specs.Rows.{added_at};
 ghost use Rattle.refusals.specs.Order.{OneOf};
 ghost use Rattle.refusals.specs.Sizes.{strengths};
-ghost use Rattle.encoding.specs.Rows.{RowsOn, ChecksPut};
+ghost use Rattle.encoding.specs.Rows.{RowsOn, ChecksPut, ChecksFit};
 ghost use Rattle.encoding.specs.Working.{StrengthTable, EnteredBy, RowsBy};
 ghost use Rattle.encoding.specs.Outcome.{EncodeOutcome};
 
@@ -63,7 +63,7 @@ pub(crate) fn enter(e: u32, rows: &mut [[u8; 32]; 8], first: Turn, symbols: &[u8
 
 // The checks follow the frame, interleaved as it is.
 pub(crate) fn put_checks(rows: [[u8; 32]; 8], depth: usize, start: usize, block: &mut [u8])
-    requires { (0 < depth) × (depth ≤ 8) × (start ≤ length block.old) × (length block.old ≤ start + 32 * depth) }
+    requires { ChecksFit depth start (length block.old) }
     ensures { ChecksPut rows depth start block.old block.new }
 {
     let mut turn = Turn::first(depth);

@@ -1,7 +1,6 @@
 -- `encode` refuses as the shared checks do; else the block is coded, by what its parts ensure. The two answers come first, so that a
 -- promise that is not kept is what a check names first.
 use mathlib.Core.Path.{refl}
-use native.Mathlib.Omega.{arith}
 use lib.ListN.{length}
 use Rattle.std.proofs.lemmas.Result.{err_from_is_err_and}
 use Rattle.encoding.proofs.CodedBlocks.{EncodeLegal, encode_legal, checks_room, octets_known, checks_written, encode_refuses, encode_accepts}

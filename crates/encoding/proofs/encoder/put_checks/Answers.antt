@@ -19,8 +19,7 @@ loop-octet-preserved c =
     let written : (n : ℕ) → n < loop.octet-index + 1 → get_or (set loop.octet-items loop.octet-index (get_or (get_or rows loop.turn.word []) loop.check 0)) n 0 ≡ interleaved rows c.args.depth n =
     λ n h. ap (λ (x : ℕ). get_or (set loop.octet-items loop.octet-index x) n 0) (interleaved-at rows c.args.depth loop.octet-index loop.check loop.turn.word loop.invariant.1 (omega (arith, loop.turn.within, loop.invariant.0)))
     ∙ fill_by_more (interleaved rows c.args.depth) loop.octet-items loop.octet-index 0 (omega arith) loop.invariant.2 n h in
-    let step : NextWord c.args.depth loop.turn.word c.next-turn.result.word = subst (λ (i : ℕ). NextWord i loop.turn.word c.next-turn.result.word) loop.invariant.0 c.next-turn.ensures.word in
-    (
+    let step : NextWord c.args.depth loop.turn.word c.next-turn.result.word = subst (λ (i : ℕ). NextWord i loop.turn.word c.next-turn.result.word) loop.invariant.0 c.next-turn.ensures.word in (
       c.next-turn.ensures.depth ∙ loop.invariant.0,
       elim c.if-turn-eq0.branch [
         | then-turn-eq0 w ↦ next_place _ _ _ _ _ _ loop.invariant.1 step (λ z. w.check-is) (λ n. absurd (n w.if-turn-eq0.true))
