@@ -24,7 +24,7 @@ use Rattle.codewords.specs.Words.{Octets, Codeword, with_fill}
 use Rattle.codewords.proofs.WordValues.{octet_at, octets_of_lem}
 use Rattle.encoding.specs.Blocks.{sent_from, word_of}
 use Rattle.encoding.specs.Outcome.{Coded, EncodeOutcome}
-use Rattle.encoding.specs.Rows.{in_row, rows_entered, no_rows, RowsOn, ChecksPut}
+use Rattle.encoding.specs.Rows.{in_row, rows_entered, no_rows, RowsOn, ChecksPut, ChecksFit}
 use Rattle.encoding.specs.Working.{row_after}
 use Rattle.encoding.proofs.Interleaving.{sent_is, sent-++, sent-information, place-below, symbol_below, word_at}
 use Rattle.encoding.proofs.CheckRows.{row_front_size, row-codeword}
@@ -70,9 +70,11 @@ checks_rows e i q frame block legal = (omega (arith, legal.words.some), legal.wo
     few = omega (arith, legal.words.strong)
 
 pub checks_room : (e i q : ℕ) (frame before put : List ℕ) → EncodeLegal e i q (length frame) (length before) → put ≡ copied_over frame before
-    → (0 < i) × (i ≤ 8) × (length frame ≤ length put) × (length put ≤ length frame + 32 * i)
+    → ChecksFit i (length frame) (length put)
 checks_room e i q frame before put legal P =
-    subst (λ (n : ℕ). (0 < i) × (i ≤ 8) × (length frame ≤ n) × (n ≤ length frame + 32 * i)) (sym (put_size frame before put P)) (checks_rows e i q (length frame) (length before) legal)
+    let fit : _ = checks_rows e i q (length frame) (length before) legal in
+    let size : length put ≡ length before = put_size frame before put P in
+    record { some = fit.0; deep = fit.1; within = omega (arith, fit.2, size); room = omega (arith, fit.3, size) }
 
 -- ---- the block
 

@@ -1,6 +1,6 @@
 -- Places in a block and the words that it interleaves: octet k i + w is symbol k of word w, and a word is known by its octets.
 use mathlib.Core.Path.{◌≡◌, refl, sym, ap, ap₂, ◌∙◌, subst}
-use mathlib.Core.Logic.{◌↔◌}
+use mathlib.Core.Logic.{◌↔◌, inl, inr}
 use mathlib.Core.List.{List, [], ◌∷◌, ◌++◌}
 use Prim.Native.Nat.{ℕ, zero, suc, ◌+◌, ◌-◌, ◌*◌, ◌/◌, ◌%◌, ◌≤◌, ◌<◌}
 use native.Mathlib.Nat.{add-zero, zero-add, add-suc, suc-add, add_comm, mod-eq_of_lt, mul-le-mul_right, mul-add-mod_self_right, add-mul-div_right, div-eq_of_lt, div-add-mod', mod-lt}
@@ -15,6 +15,7 @@ use Rattle.std.proofs.lemmas.List.{get_or-append_right}
 use Rattle.std.proofs.lemmas.Slice.{take-put_mid_below}
 use Rattle.encoding.specs.Blocks.{sent_from, word_of}
 use Rattle.encoding.specs.Rows.{ChecksPut}
+use Rattle.encoding.specs.Turns.{NextWord}
 
 -- ---- places
 
@@ -46,12 +47,11 @@ symbol_below i k m w h =
     at_least n = omega arith
 
 -- the next place is that of the next word, or of the first word's next symbol
-module _ (i at symbol word symbol' word' : ℕ) (place : at ≡ symbol * i + word) where
-  pub next_word : word' ≡ word + 1 → symbol' ≡ symbol → at + 1 ≡ symbol' * i + word'
-  next_word e s = omega (arith, ap (λ (k : ℕ). k * i) s)
-
-  pub next_symbol : word + 1 ≡ i → word' ≡ 0 → symbol' ≡ symbol + 1 → at + 1 ≡ symbol' * i + word'
-  next_symbol l e s = omega (arith, ap (λ (k : ℕ). k * i) s)
+pub next_place : (i at symbol word symbol' word' : ℕ) → at ≡ symbol * i + word → NextWord i word word' → (word' ≡ 0 → symbol' ≡ symbol + 1) → ((word' ≡ 0 → ⊥) → symbol' ≡ symbol)
+    → at + 1 ≡ symbol' * i + word'
+next_place i at symbol word symbol' word' place (inl last) first other = omega (arith, ap (λ (k : ℕ). k * i) (first last.1))
+next_place i at symbol word symbol' word' place (inr inner) first other =
+    omega (arith, ap (λ (k : ℕ). k * i) (other (λ z. omega (arith, inner.1))))
 
 -- ---- rows that are interleaved
 

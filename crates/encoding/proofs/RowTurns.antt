@@ -1,5 +1,6 @@
 -- The rows while octets enter in turn: each octet is the next symbol of the next word.
 use mathlib.Core.Path.{◌≡◌, refl, sym, ap, ap₂, ◌∙◌, subst}
+use mathlib.Core.Logic.{inl, inr}
 use mathlib.Core.List.{List, [], ◌∷◌, ◌++◌}
 use Prim.Native.Nat.{ℕ, zero, suc, ◌+◌, ◌*◌, ◌/◌, ◌%◌, ◌≤◌, ◌<◌}
 use native.Mathlib.Nat.{add-zero, zero-add, add-suc, suc-add, div-add-mod'}
@@ -8,8 +9,9 @@ use native.Mathlib.Decide.{ℕ_discrete}
 use native.Mathlib.Omega.{arith}
 use lib.ListN.{length, take, get_or, set, replicate, length-set, get_or-replicate}
 use lib.Seq.{get_or-set_same, get_or-set_other, length-take-le, take-suc, take-length}
-use Rattle.encoding.specs.Rows.{entered, in_row, rows_entered, no_rows}
+use Rattle.encoding.specs.Rows.{entered, in_row, rows_entered, no_rows, RowsOn}
 use Rattle.encoding.specs.Working.{EnteredBy, row_after, RowsBy}
+use Rattle.encoding.specs.Turns.{NextWord}
 use Rattle.encoding.proofs.Interleaving.{word_of_lem, place_symbol}
 use Rattle.encoding.proofs.CheckRows.{long_row}
 
@@ -63,23 +65,21 @@ module _ (generator : List ℕ) (i : ℕ) where
 
 -- the first octets have entered, and the next is of `word`
 pub record Turn (adds : ℕ → ℕ → ℕ) (i first : ℕ) (before : List (List ℕ)) (symbols : List ℕ) (at word : ℕ) (rows : List (List ℕ)) : Type 0 where
-  pub within : word < i
   pub size : length rows ≡ 8
   pub next : (place : ℕ) → place % i ≡ first → (place + at) % i ≡ word
   pub done : RowsBy adds i first before (take at symbols) rows
 
 module _ (adds : ℕ → ℕ → ℕ) (i first : ℕ) (before : List (List ℕ)) (symbols : List ℕ) where
-  pub turn_start : first < i → length before ≡ 8 → Turn adds i first before symbols 0 first before
+  pub turn_start : length before ≡ 8 → Turn adds i first before symbols 0 first before
   unfolding rows_entered
-  turn_start h l =
+  turn_start l =
       record {
-        within = h;
         size = l;
         next = λ place p. ap (λ (n : ℕ). n % i) (add-zero place) ∙ p;
         done = λ e strength listed place p. refl;
       }
 
-  module _ (at word : ℕ) (rows after : List (List ℕ)) (row : List ℕ) (T : Turn adds i first before symbols at word rows) (h : at < length symbols)
+  module _ (at word next : ℕ) (rows after : List (List ℕ)) (row : List ℕ) (T : Turn adds i first before symbols at word rows) (h : at < length symbols)
       (sets : after ≡ set rows word row) (steps : EnteredBy adds (get_or rows word []) (get_or symbols at 0) row) where
     more : RowsBy adds i first before (take (at + 1) symbols) after
     more e strength listed place p =
@@ -88,23 +88,25 @@ module _ (adds : ℕ → ℕ → ℕ) (i first : ℕ) (before : List (List ℕ))
         ∙ ap (λ (r : List (List ℕ)). set r word (entered (in_row e) (get_or r word []) (get_or symbols at 0))) (T.done e strength listed place p)
         ∙ sym (entered-next (in_row e) i symbols place before at word h (T.next place p))
 
-    turned : (word' : ℕ) → word' < i → ((n : ℕ) → n % i ≡ word → (n + 1) % i ≡ word') → Turn adds i first before symbols (at + 1) word' after
-    turned word' below moves =
+    moves : NextWord i word next → (n : ℕ) → n % i ≡ word → (n + 1) % i ≡ next
+    moves (inl last) n r = next_turn i n word r last.0 ∙ sym last.1
+    moves (inr inner) n r = next_place_lem i n word r inner.0 ∙ sym inner.1
+
+    pub turned : NextWord i word next → Turn adds i first before symbols (at + 1) next after
+    turned step =
         record {
-          within = below;
           size = ap length sets ∙ length-set rows word row ∙ T.size;
-          next = λ place p. ap (λ (n : ℕ). n % i) (omega arith) ∙ moves (place + at) (T.next place p);
+          next = λ place p. ap (λ (n : ℕ). n % i) (omega arith) ∙ moves step (place + at) (T.next place p);
           done = more;
         }
 
-    pub turn_word : (word' : ℕ) → word' ≡ word + 1 → (word + 1 ≡ i → ⊥) → Turn adds i first before symbols (at + 1) word' after
-    turn_word word' p d = turned word' (omega (arith, T.within)) (λ n r. next_place_lem i n word r (omega (arith, T.within)) ∙ sym p)
-
-    pub turn_symbol : (word' : ℕ) → word' ≡ 0 → word + 1 ≡ i → Turn adds i first before symbols (at + 1) word' after
-    turn_symbol word' p d = turned word' (omega arith) (λ n r. next_turn i n word r d ∙ sym p)
-
   pub turn_end : (at word : ℕ) (rows : List (List ℕ)) → at ≡ length symbols → Turn adds i first before symbols at word rows → RowsBy adds i first before symbols rows
   turn_end at word rows p T = subst (λ (list : List ℕ). RowsBy adds i first before list rows) (ap (λ (n : ℕ). take n symbols) p ∙ take-length symbols) T.done
+
+-- where the first word's turn comes first
+pub rows_first : (e i depth word : ℕ) (rows : List (List ℕ)) (symbols : List ℕ) (after : List (List ℕ)) → depth ≡ i → word ≡ 0 → RowsOn e depth word rows symbols after → RowsOn e i 0 rows symbols after
+rows_first e i depth word rows symbols after p q R =
+    subst (λ (n : ℕ). RowsOn e n 0 rows symbols after) p (subst (λ (w : ℕ). RowsOn e depth w rows symbols after) q R)
 
 -- ---- a whole frame
 

@@ -3,3 +3,4 @@ pub mod Blocks
 pub mod Rows
 pub mod Outcome
 pub mod Working
+pub mod Turns

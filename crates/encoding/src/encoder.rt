@@ -1,14 +1,15 @@
 // Encoding of a whole frame: its words' checks, and the block with frame and checks.
-ghost use Rattle.std.specs.Prelude.{◌≡◌, List, ℕ, ◌+◌, ◌*◌, ◌≤◌, ◌<◌, length};
+ghost use Rattle.std.specs.Prelude.{length};
 ghost use Rattle.check_rows.specs.Rows.{added_at};
 ghost use Rattle.refusals.specs.Order.{OneOf};
 ghost use Rattle.refusals.specs.Sizes.{strengths};
-ghost use Rattle.encoding.specs.Rows.{RowsOn, ChecksPut};
+ghost use Rattle.encoding.specs.Rows.{RowsOn, ChecksPut, ChecksFit};
 ghost use Rattle.encoding.specs.Working.{StrengthTable, EnteredBy, RowsBy};
 ghost use Rattle.encoding.specs.Outcome.{EncodeOutcome};
 
 use crate::table_8::TABLE_8;
 use crate::table_16::TABLE_16;
+use crate::turn::Turn;
 use check_rows::{FeedbackRows, stepped, table_of};
 use octets::copy_front;
 use refusals::{Code, Parameter};
@@ -20,24 +21,14 @@ fn entered<R: FeedbackRows>(source: &R, row: [u8; 32], symbol: u8) -> [u8; 32]
     stepped(source, row, symbol)
 }
 
-// The symbols enter in turn from word `first` on, whole frame or portion: a counter that starts anew spares a division for each symbol.
-fn enter_by<R: FeedbackRows>(
-    source: &R,
-    rows: &mut [[u8; 32]; 8],
-    first: usize,
-    symbols: &[u8],
-    depth: usize,
-)
-    requires { (first < depth) × (depth ≤ 8) }
-    ensures { RowsBy (R.adds source.now) depth first rows.old symbols.now rows.new }
+// The symbols enter in turn, whole frame or portion, the first of them the row of word `first`.
+fn enter_by<R: FeedbackRows>(source: &R, rows: &mut [[u8; 32]; 8], first: Turn, symbols: &[u8])
+    ensures { RowsBy (R.adds source.now) first.depth first.word rows.old symbols.now rows.new }
 {
-    let mut word = first;
+    let mut turn = first;
     for symbol in symbols {
-        rows[word] = entered(source, rows[word], *symbol);
-        word += 1;
-        if word == depth {
-            word = 0;
-        }
+        rows[turn.word] = entered(source, rows[turn.word], *symbol);
+        turn = turn.next();
     }
 }
 
@@ -51,44 +42,36 @@ fn rows_of(e: u32) -> &'static [u8; 256]
 
 // The table is built here and not in `enter`, which would clear its 8,192 octets for a few symbols too.
 #[inline(never)]
-fn enter_many(
-    bits: &[u8; 256],
-    rows: &mut [[u8; 32]; 8],
-    first: usize,
-    symbols: &[u8],
-    depth: usize,
-)
-    requires { (first < depth) × (depth ≤ 8) }
-    ensures { RowsBy (added_at bits.now) depth first rows.old symbols.now rows.new }
+fn enter_many(bits: &[u8; 256], rows: &mut [[u8; 32]; 8], first: Turn, symbols: &[u8])
+    ensures { RowsBy (added_at bits.now) first.depth first.word rows.old symbols.now rows.new }
 {
-    enter_by(&table_of(bits), rows, first, symbols, depth);
+    enter_by(&table_of(bits), rows, first, symbols);
 }
 
 // For fewer symbols the table would take longer to build than it spares.
-pub(crate) fn enter(e: u32, rows: &mut [[u8; 32]; 8], first: usize, symbols: &[u8], depth: usize)
-    requires { OneOf strengths e × (first < depth) × (depth ≤ 8) }
-    ensures { RowsOn e depth first rows.old symbols.now rows.new }
+pub(crate) fn enter(e: u32, rows: &mut [[u8; 32]; 8], first: Turn, symbols: &[u8])
+    requires { OneOf strengths e }
+    ensures { RowsOn e first.depth first.word rows.old symbols.now rows.new }
 {
     let bits = rows_of(e);
     if symbols.len() < 100 {
-        enter_by(bits, rows, first, symbols, depth);
+        enter_by(bits, rows, first, symbols);
     } else {
-        enter_many(bits, rows, first, symbols, depth);
+        enter_many(bits, rows, first, symbols);
     }
 }
 
 // The checks follow the frame, interleaved as it is.
 pub(crate) fn put_checks(rows: [[u8; 32]; 8], depth: usize, start: usize, block: &mut [u8])
-    requires { (0 < depth) × (depth ≤ 8) × (start ≤ length block.old) × (length block.old ≤ start + 32 * depth) }
+    requires { ChecksFit depth start (length block.old) }
     ensures { ChecksPut rows depth start block.old block.new }
 {
-    let mut word = 0usize;
+    let mut turn = Turn::first(depth);
     let mut check = 0usize;
     for octet in &mut block[start..] {
-        *octet = rows[word][check];
-        word += 1;
-        if word == depth {
-            word = 0;
+        *octet = rows[turn.word][check];
+        turn = turn.next();
+        if turn.word == 0 {
             check += 1;
         }
     }
@@ -99,10 +82,10 @@ pub fn encode(code: Code, frame: &[u8], block: &mut [u8]) -> Result<(), Paramete
     ensures { EncodeOutcome code.strength code.depth code.fill frame.now block.old result block.new }
 {
     refusals::encode_parameters(code, frame.len(), block.len())?;
-    let words = code.depth as usize;
+    let depth = code.depth as usize;
     let mut rows = [[0u8; 32]; 8];
-    enter(code.strength, &mut rows, 0, frame, words);
+    enter(code.strength, &mut rows, Turn::first(depth), frame);
     copy_front(frame, block);
-    put_checks(rows, words, frame.len(), block);
+    put_checks(rows, depth, frame.len(), block);
     Ok(())
 }

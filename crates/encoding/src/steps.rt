@@ -4,6 +4,7 @@ ghost use Rattle.refusals.specs.Order.{Tells};
 ghost use Rattle.encoding.specs.Rows.{MayEnter, RowsOutcome, ChecksFit, ChecksOutcome};
 
 use crate::encoder::{enter, put_checks};
+use crate::turn::Turn;
 
 fn may_enter(e: u32, first: usize, depth: usize) -> bool
     ensures { Tells result (MayEnter e depth first) }
@@ -23,7 +24,7 @@ pub fn rows_entered(
     ensures { RowsOutcome e depth first rows symbols.now result }
 {
     if may_enter(e, first, depth) {
-        enter(e, &mut rows, first, symbols, depth);
+        enter(e, &mut rows, Turn { word: first, depth }, symbols);
     }
     rows
 }

@@ -1,10 +1,10 @@
 -- `encode` refuses as the shared checks do; else the block is coded, by what its parts ensure. The two answers come first, so that a
 -- promise that is not kept is what a check names first.
 use mathlib.Core.Path.{refl}
-use native.Mathlib.Omega.{arith}
 use lib.ListN.{length}
 use Rattle.std.proofs.lemmas.Result.{err_from_is_err_and}
 use Rattle.encoding.proofs.CodedBlocks.{EncodeLegal, encode_legal, checks_room, octets_known, checks_written, encode_refuses, encode_accepts}
+use Rattle.encoding.proofs.RowTurns.{rows_first}
 use Rattle.encoding.proofs.encoder.encode.Goals as goal
 use Rattle.encoding.proofs.encoder.encode.Goals.{In_ok-encode_parameters}
 
@@ -19,12 +19,10 @@ returns-in_err-encode_parameters c =
 
 -- accepted
 pub returns : goal.returns
-returns c = encode_accepts _ _ _ _ _ _ _ c.in_ok-encode_parameters.ensures (search octets_known) (search checks_written) (search)
+returns c = encode_accepts _ _ _ _ _ _ _ c.in_ok-encode_parameters.ensures (search octets_known) (checks_written _ _ _ _ _ _ (rows_first _ _ _ _ _ _ _ c.first.ensures.depth c.first.ensures.word c.enter.ensures) c.put_checks.ensures) c.copy_front.ensures
 
 pub enter-requires : goal.enter-requires
-enter-requires c =
-    let l : EncodeLegal _ _ _ _ _ = legal (goal.at.enter-requires c).In_ok-encode_parameters in
-    (l.words.strength, omega (arith, l.words.some), l.words.deep)
+enter-requires c = (legal (goal.at.enter-requires c).In_ok-encode_parameters).words.strength
 
 pub put_checks-requires : goal.put_checks-requires
 put_checks-requires c = checks_room _ _ _ c.args.frame.now c.args.block.now _ (legal (goal.at.put_checks-requires c).In_ok-encode_parameters) c.copy_front.ensures
