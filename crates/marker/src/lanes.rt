@@ -4,8 +4,8 @@ ghost use Rattle.marker.specs.Place.{NoneFits};
 ghost use Rattle.marker.specs.Working.{lanes, common_wrong, tops_apart, TopsTell};
 
 use crate::Searched;
+use crate::hunt::Hunt;
 use crate::table::OctetTable;
-use crate::walking::walk;
 
 // The lowest bit of each count.
 const ONES: u64 = 0x0101010101010101;
@@ -31,55 +31,6 @@ fn tops_apart(counts: u64, tolerance: u32) -> u64
     (counts + (127 - near) * ONES) ^ (counts + (104 + near) * ONES)
 }
 
-fn tops_at(table: &OctetTable, tolerance: u32, stream: &[u8], i: usize) -> u64
-    requires { (tolerance ≤ 3) × (i + 4 < length stream.now) }
-    ensures { TopsTell tolerance stream.now i result }
-{
-    tops_apart(common_at(table, stream, i), tolerance)
-}
-
-fn none_of_four(table: &OctetTable, tolerance: u32, stream: &[u8], i: usize) -> bool
-    requires { (tolerance ≤ 3) × (i + 7 < length stream.now) }
-    ensures { result ≡ true → NoneFits tolerance stream.now (8 * i) (8 * (i + 4)) }
-{
-    let a = tops_at(table, tolerance, stream, i);
-    let b = tops_at(table, tolerance, stream, i + 1);
-    let c = tops_at(table, tolerance, stream, i + 2);
-    let d = tops_at(table, tolerance, stream, i + 3);
-    a & b & c & d & TOPS == TOPS
-}
-
-// By fours: how far no place fits as the 24 bits tell.
-fn passed(table: &OctetTable, tolerance: u32, stream: &[u8], first: usize, end: usize) -> usize
-    requires { (tolerance ≤ 3) × (first ≤ end) × (end + 4 ≤ length stream.now) }
-    ensures { (first ≤ result) × (result ≤ end) × NoneFits tolerance stream.now (8 * first) (8 * result) }
-{
-    let mut i = first;
-    while i + 4 <= end {
-        if !none_of_four(table, tolerance, stream, i) {
-            return i;
-        }
-        i += 4;
-    }
-    i
-}
-
-// Bit by bit.
-fn none_fits(tolerance: u32, stream: &[u8], first: usize, end: usize) -> bool
-    requires { (tolerance ≤ 3) × (first ≤ end) × (end + 4 ≤ length stream.now) × (length stream.now ≤ 65536) }
-    ensures { result ≡ true → NoneFits tolerance stream.now (8 * first) (8 * end) }
-{
-    matches!(
-        walk(
-            tolerance,
-            stream,
-            8 * (first as u64),
-            8 * ((end - first) as u64)
-        ),
-        Searched::Spent { .. }
-    )
-}
-
 fn next_of(i: usize, end: usize) -> usize
     requires { (i ≤ end) × (end ≤ 65536) }
     ensures { (i ≤ result) × (result ≤ end) × (end - result ≤ end - i - 4) }
@@ -90,21 +41,67 @@ fn next_of(i: usize, end: usize) -> usize
     i + 4
 }
 
-// The first octet, of those at which it stopped to look bit by bit, from which on a place fits, or `end`. Of four random octets one in some hundred has a place that
-// is near in the 24 bits and does not fit.
-pub(crate) fn skipped(tolerance: u32, stream: &[u8], first: usize, end: usize) -> usize
-    requires { (tolerance ≤ 3) × (first ≤ end) × (end + 4 ≤ length stream.now) × (length stream.now ≤ 65536) }
-    ensures { (first ≤ result) × (result ≤ end) × NoneFits tolerance stream.now (8 * first) (8 * result) }
-{
-    let table = OctetTable::new();
-    let mut i = first;
-    while i < end {
-        let near = passed(&table, tolerance, stream, i, end);
-        let next = next_of(near, end);
-        if !none_fits(tolerance, stream, near, next) {
-            return near;
-        }
-        i = next;
+impl<'a> Hunt<'a> {
+    fn tops_at(&self, table: &OctetTable, i: usize) -> u64
+        requires { i + 4 < length self.now.stream.now }
+        ensures { TopsTell self.now.tolerance self.now.stream.now i result }
+    {
+        tops_apart(common_at(table, self.stream, i), self.tolerance)
     }
-    end
+
+    fn none_of_four(&self, table: &OctetTable, i: usize) -> bool
+        requires { i + 7 < length self.now.stream.now }
+        ensures { result ≡ true → NoneFits self.now.tolerance self.now.stream.now (8 * i) (8 * (i + 4)) }
+    {
+        let a = self.tops_at(table, i);
+        let b = self.tops_at(table, i + 1);
+        let c = self.tops_at(table, i + 2);
+        let d = self.tops_at(table, i + 3);
+        a & b & c & d & TOPS == TOPS
+    }
+
+    // By fours: how far no place fits as the 24 bits tell.
+    fn passed(&self, table: &OctetTable, first: usize, end: usize) -> usize
+        requires { (first ≤ end) × (end + 4 ≤ length self.now.stream.now) }
+        ensures { (first ≤ result) × (result ≤ end) × NoneFits self.now.tolerance self.now.stream.now (8 * first) (8 * result) }
+    {
+        let mut i = first;
+        while i + 4 <= end {
+            if !self.none_of_four(table, i) {
+                return i;
+            }
+            i += 4;
+        }
+        i
+    }
+
+    // Bit by bit.
+    fn none_fits(&self, first: usize, end: usize) -> bool
+        requires { (first ≤ end) × (end + 4 ≤ length self.now.stream.now) }
+        ensures { result ≡ true → NoneFits self.now.tolerance self.now.stream.now (8 * first) (8 * end) }
+    {
+        matches!(
+            self.walk(8 * (first as u64), 8 * ((end - first) as u64)),
+            Searched::Spent { .. }
+        )
+    }
+
+    // The first octet, of those at which it stopped to look bit by bit, from which on a place fits, or `end`. Of four random octets one in some hundred has a place
+    // that is near in the 24 bits and does not fit.
+    pub(crate) fn skipped(&self, first: usize, end: usize) -> usize
+        requires { (first ≤ end) × (end + 4 ≤ length self.now.stream.now) }
+        ensures { (first ≤ result) × (result ≤ end) × NoneFits self.now.tolerance self.now.stream.now (8 * first) (8 * result) }
+    {
+        let table = OctetTable::new();
+        let mut i = first;
+        while i < end {
+            let near = self.passed(&table, i, end);
+            let next = next_of(near, end);
+            if !self.none_fits(near, next) {
+                return near;
+            }
+            i = next;
+        }
+        end
+    }
 }

@@ -2,14 +2,14 @@
 -- Where the loops are left and nothing was found, by the budget or at the end, `Stopped` holds, from which either answer follows.
 use Rattle.std.proofs.Common.{sym, refl, ◌∙◌, arith, leb-false, leb-true}
 use Rattle.marker.proofs.Sofar.{Stopped, begins, moved, onward, found, out_of_budget, none_there, ended, spent, absent}
-use Rattle.marker.proofs.walking.walk.Goals as goal
-use Rattle.marker.proofs.walking.walk.Goals.{Left-octets, else-octets-test, then-octets-test+then-loop-b-test+then-looked-budget}
+use Rattle.marker.proofs.hunt.Hunt.walk.Goals as goal
+use Rattle.marker.proofs.hunt.Hunt.walk.Goals.{Left-octets, else-octets-test, then-octets-test+then-loop-b-test+then-looked-budget}
 
 -- Both ways out at which nothing was found.
 abbrev StoppedAt : (c : Left-octets) → Type 0
 StoppedAt c =
     let given = c.args in
-    Stopped given.tolerance given.stream.now given.start given.budget c.octets-test.looked
+    Stopped given.self.now.tolerance given.self.now.stream.now given.start given.budget c.octets-test.looked
 
 stopped : (c : Left-octets) → StoppedAt c
 stopped c =

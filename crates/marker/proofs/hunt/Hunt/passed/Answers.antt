@@ -1,7 +1,7 @@
 -- `passed` goes on by four octets as long as no place that begins in them is near in their common bits.
 use Rattle.std.proofs.Common.{arith}
 use Rattle.marker.proofs.Passing.{none_joined}
-use Rattle.marker.proofs.lanes.passed.Goals as goal
+use Rattle.marker.proofs.hunt.Hunt.passed.Goals as goal
 
 pub loop-i-init : goal.loop-i-init
 loop-i-init c = (omega arith, omega arith, λ p from below. absurd (omega arith))

@@ -1,7 +1,7 @@
 -- `skipped` goes on behind the octets passed, and behind those in which bit by bit no place fits.
 use Rattle.std.proofs.Common.{arith}
 use Rattle.marker.proofs.Passing.{none_joined}
-use Rattle.marker.proofs.lanes.skipped.Goals as goal
+use Rattle.marker.proofs.hunt.Hunt.skipped.Goals as goal
 
 pub loop-i-init : goal.loop-i-init
 loop-i-init c = (omega arith, omega arith, λ p from below. absurd (omega arith))
