@@ -65,14 +65,13 @@ impl<'a> Hunt<'a> {
         requires { (first ≤ end) × (end + 4 ≤ length self.now.stream.now) }
         ensures { (first ≤ result) × (result ≤ end) × NoneFits self.now.tolerance self.now.stream.now (8 * first) (8 * result) }
     {
-        let mut i = first;
-        while i + 4 <= end {
+        let last = first + (end - first) / 4 * 4;
+        for i in (first..last).step_by(4) {
             if !self.none_of_four(table, i) {
                 return i;
             }
-            i += 4;
         }
-        i
+        last
     }
 
     // Bit by bit.

@@ -48,9 +48,9 @@ impl<'a> Hunt<'a> {
         let mut window = window_before(self.stream, start);
         let mut from = ((start + 31) % 8) as usize;
         let mut looked: u64 = 0;
-        'octets: for i in first..octets {
+        'octets: for octet in &self.stream[first..] {
             for b in from..8 {
-                window = bit_entered(window, self.stream[i], b);
+                window = bit_entered(window, *octet, b);
                 if looked == budget {
                     break 'octets;
                 }
