@@ -27,7 +27,7 @@ fn tops_apart(counts: u64, tolerance: u32) -> u64
     requires { (counts ≤ 24 * 0x0101010101010101) × (tolerance ≤ 3) }
     ensures { result ≡ tops_apart tolerance counts }
 {
-    let near = tolerance as u64;
+    let near = u64::from(tolerance);
     (counts + (127 - near) * ONES) ^ (counts + (104 + near) * ONES)
 }
 

@@ -44,7 +44,7 @@ pub(crate) fn bit_entered(window: u32, octet: u8, b: usize) -> u32
     requires { b < 8 }
     ensures { result ≡ window * 2 % 2 ^ 32 + octet / 2 ^ (7 - b) % 2 }
 {
-    (window << 1) + ((octet >> (7 - b)) % 2) as u32
+    (window << 1) + u32::from((octet >> (7 - b)) % 2)
 }
 
 // The window moved on by the first n bits of an octet.
@@ -52,5 +52,5 @@ pub(crate) fn front_entered(window: u32, octet: u8, n: usize) -> u32
     requires { n ≤ 8 }
     ensures { result ≡ window * 2 ^ n % 2 ^ 32 + octet / 2 ^ (8 - n) }
 {
-    (window << n) + (octet as u32 >> (8 - n))
+    (window << n) + (u32::from(octet) >> (8 - n))
 }
