@@ -13,12 +13,14 @@ const ONES: u64 = 0x0101010101010101;
 // The highest.
 const TOPS: u64 = 0x8080808080808080;
 
-// The eight counts over the three octets that all eight places have whole.
-fn common_at(table: &OctetTable, stream: &[u8], i: usize) -> u64
-    requires { (i + 4 < length stream.now) }
-    ensures { result ≡ lanes 8 (common_wrong stream.now i) }
-{
-    table.added(0, stream[i + 1]) + table.added(1, stream[i + 2]) + table.added(2, stream[i + 3])
+impl OctetTable {
+    // The eight counts over the three octets that all eight places have whole.
+    fn common_at(&self, stream: &[u8], i: usize) -> u64
+        requires { i + 4 < length stream.now }
+        ensures { result ≡ lanes 8 (common_wrong stream.now i) }
+    {
+        self.added(0, stream[i + 1]) + self.added(1, stream[i + 2]) + self.added(2, stream[i + 3])
+    }
 }
 
 // A count above the tolerance has its top bit set in the one sum. One so large that the complement's, which is the rest of the 24 bits, is not above it
@@ -31,22 +33,12 @@ fn tops_apart(counts: u64, tolerance: u32) -> u64
     (counts + (127 - near) * ONES) ^ (counts + (104 + near) * ONES)
 }
 
-fn next_of(i: usize, end: usize) -> usize
-    requires { (i ≤ end) × (end ≤ 65536) }
-    ensures { (i ≤ result) × (result ≤ end) × (end - result ≤ end - i - 4) }
-{
-    if end < i + 4 {
-        return end;
-    }
-    i + 4
-}
-
 impl<'a> Hunt<'a> {
     fn tops_at(&self, table: &OctetTable, i: usize) -> u64
         requires { i + 4 < length self.now.stream.now }
         ensures { TopsTell self.now.tolerance self.now.stream.now i result }
     {
-        tops_apart(common_at(table, self.stream, i), self.tolerance)
+        tops_apart(table.common_at(self.stream, i), self.tolerance)
     }
 
     fn none_of_four(&self, table: &OctetTable, i: usize) -> bool
@@ -95,7 +87,7 @@ impl<'a> Hunt<'a> {
         let mut i = first;
         while i < end {
             let near = self.passed(&table, i, end);
-            let next = next_of(near, end);
+            let next = end.min(near + 4);
             if !self.none_fits(near, next) {
                 return near;
             }

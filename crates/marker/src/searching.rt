@@ -21,18 +21,8 @@ fn whole_octets(octets: usize, start: u64, budget: u64) -> usize
     requires { (octets ≤ 65536) × (start ≤ 8 * octets) }
     ensures { (8 * result ≤ start + budget) × (result ≤ octets - 4) }
 {
-    if octets < 4 {
-        return 0;
-    }
-    let last = octets - 4;
-    if budget >= MOST {
-        return last;
-    }
-    let affordable = ((start + budget) / 8) as usize;
-    if affordable < last {
-        return affordable;
-    }
-    last
+    let affordable = ((start + budget.min(MOST)) / 8) as usize;
+    affordable.min(octets.saturating_sub(4))
 }
 
 impl<'a> Hunt<'a> {

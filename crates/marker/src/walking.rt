@@ -1,7 +1,6 @@
 // The search bit by bit: one place after the other.
-ghost use Rattle.std.specs.Prelude.{◌≡◌, ◌+◌, ◌-◌, ◌*◌, ◌<◌, ◌≤◌, length, bit_xor, count_ones};
-ghost use Rattle.marker.specs.Place.{nearer, fewer};
-ghost use Rattle.marker.specs.Working.{Carried};
+ghost use Rattle.std.specs.Prelude.{◌≡◌, ◌+◌, ◌-◌, ◌*◌, ◌<◌, ◌≤◌, length};
+ghost use Rattle.marker.specs.Working.{Carried, form_in, fewest_in};
 ghost use Rattle.marker.specs.Outcome.{Looked};
 ghost use Rattle.marker.specs.declared.Searched.TheVariants.{Found};
 
@@ -10,7 +9,7 @@ use crate::window::{bit_entered, front_entered, is_near, nearer_form};
 use crate::{Near, Searched};
 
 fn found(window: u32, place: u64, looked: u64) -> Searched
-    ensures { result ≡ Found place (nearer (count_ones (bit_xor window 0x1ACFFC1D)) (32 - count_ones (bit_xor window 0x1ACFFC1D))) (fewer (count_ones (bit_xor window 0x1ACFFC1D)) (32 - count_ones (bit_xor window 0x1ACFFC1D))) looked }
+    ensures { result ≡ Found place (form_in window) (fewest_in window) looked }
 {
     let Near { form, wrong } = nearer_form(window);
     Searched::Found {

@@ -17,7 +17,7 @@ loop-i-preserved c =
     let front = c.loop-i.invariant.2 in
     let near = c.passed-near.ensures in
     let none = c.none_fits.ensures c.if-not-none_fits.false in
-    (omega arith, c.next_of-next.ensures.1, none_joined _ _ _ _ _ (none_joined _ _ _ _ _ front near.2) none)
+    (omega arith, omega arith, none_joined _ _ _ _ _ (none_joined _ _ _ _ _ front near.2) none)
 
 pub returns : goal.returns
 returns c =
