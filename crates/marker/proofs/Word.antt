@@ -76,16 +76,19 @@ front_enters s p k i n {window} {next} octet h at old e =
     ∙ ap (λ (x : ℕ). word k s p % 2 ^ 32 * 2 ^ n % 2 ^ 32 + x) (sym (octet_front s i n octet h) ∙ ap (word n s) (sym at))
     ∙ behind (word k s p) n (word n s (p + k)) h (word_small n s (p + k)) ∙ ap (λ (x : ℕ). x % 2 ^ 32) (sym (word_split k n s p))
 
--- The four octets of the marker test, each entered behind the ones before.
-pub four-octets : (s : List ℕ) (a b c d : ℕ) → ((i : ℕ) → get_or s i 0 < 256) → a ≡ 0 * 2 ^ 8 % 2 ^ 32 + get_or s 0 0 / 2 ^ (8 - 8)
-    → b ≡ a * 2 ^ 8 % 2 ^ 32 + get_or s 1 0 / 2 ^ (8 - 8) → c ≡ b * 2 ^ 8 % 2 ^ 32 + get_or s 2 0 / 2 ^ (8 - 8) → d ≡ c * 2 ^ 8 % 2 ^ 32 + get_or s 3 0 / 2 ^ (8 - 8)
-    → d ≡ word 32 s 0
-four-octets s a b c d small e f g h =
-    let none : 0 ≡ word 0 s 0 % 2 ^ 32 = omega (arith, word_none s 0) in
-    let one = front_enters s 0 0 0 8 (small 0) (omega arith) (omega arith) none e in
-    let two = front_enters s 0 8 1 8 (small 1) (omega arith) (omega arith) one f in
-    let three = front_enters s 0 16 2 8 (small 2) (omega arith) (omega arith) two g in
-    omega (arith, front_enters s 0 24 3 8 (small 3) (omega arith) (omega arith) three h, word_small 32 s 0)
+-- Four octets, the first highest.
+pub four_octets : (s : List ℕ) → ((i : ℕ) → get_or s i 0 < 256) → word 32 s 0 ≡ ((get_or s 0 0 * 256 + get_or s 1 0) * 256 + get_or s 2 0) * 256 + get_or s 3 0
+four_octets s small =
+    omega (
+      arith,
+      word_split 24 8 s 0,
+      word_split 16 8 s 0,
+      word_split 8 8 s 0,
+      octet_front s 0 8 (small 0) (omega arith),
+      octet_front s 1 8 (small 1) (omega arith),
+      octet_front s 2 8 (small 2) (omega arith),
+      octet_front s 3 8 (small 3) (omega arith),
+    )
 
 -- ---- the ones
 

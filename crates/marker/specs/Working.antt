@@ -1,9 +1,10 @@
 -- What contracts inside the search speak of: the window that is carried from bit to bit; and eight counts at once, one in each octet of a number, of the eight
 -- places that begin in one octet of a stream.
-use Rattle.std.specs.Prelude.{◌≡◌, ℕ, zero, suc, ◌+◌, ◌-◌, ◌*◌, ◌/◌, ◌%◌, ◌^◌, ◌<◌, cond, List, length, bit_xor, nat_le, nat_lt, slice_index}
+use Rattle.std.specs.Prelude.{◌≡◌, ℕ, zero, suc, ◌+◌, ◌-◌, ◌*◌, ◌/◌, ◌%◌, ◌^◌, ◌<◌, cond, List, length, bit_xor, count_ones, nat_le, nat_lt, slice_index}
 use Rattle.std.specs.Int.Bits.{differ}
 use Rattle.octets.specs.Bits.{bit_at}
-use Rattle.marker.specs.Place.{marker, Fits}
+use Rattle.marker.specs.declared.Form.{Form}
+use Rattle.marker.specs.Place.{marker, nearer, fewer, Fits}
 
 -- The n bits from p on as a number, first bit highest.
 unfoldable pub word : ℕ → List ℕ → ℕ → ℕ
@@ -17,6 +18,16 @@ base start = start / 8 * 8
 -- The window before bit q: the last 32 of the bits that entered.
 abbrev pub Carried : List ℕ → ℕ → ℕ → ℕ → Type 0
 Carried s start q window = window ≡ word (q - base start) s (base start) % 2 ^ 32
+
+-- The wrong bits of a window's 32 bits for the true marker, 1A CF FC 1D; the form that they are nearer to, and its wrong bits.
+abbrev pub wrong_in : ℕ → ℕ
+wrong_in window = count_ones (bit_xor window 0x1ACFFC1D)
+
+abbrev pub form_in : ℕ → Form
+form_in window = nearer (wrong_in window) (32 - wrong_in window)
+
+abbrev pub fewest_in : ℕ → ℕ
+fewest_in window = fewer (wrong_in window) (32 - wrong_in window)
 
 -- ---- eight places at once
 

@@ -4,8 +4,8 @@ ghost use Rattle.marker.specs.Place.{NoneFits};
 ghost use Rattle.marker.specs.Working.{lanes, common_wrong, tops_apart, TopsTell};
 
 use crate::Searched;
+use crate::hunt::Hunt;
 use crate::table::OctetTable;
-use crate::walking::walk;
 
 // The lowest bit of each count.
 const ONES: u64 = 0x0101010101010101;
@@ -13,12 +13,14 @@ const ONES: u64 = 0x0101010101010101;
 // The highest.
 const TOPS: u64 = 0x8080808080808080;
 
-// The eight counts over the three octets that all eight places have whole.
-fn common_at(table: &OctetTable, stream: &[u8], i: usize) -> u64
-    requires { (i + 4 < length stream.now) }
-    ensures { result ≡ lanes 8 (common_wrong stream.now i) }
-{
-    table.added(0, stream[i + 1]) + table.added(1, stream[i + 2]) + table.added(2, stream[i + 3])
+impl OctetTable {
+    // The eight counts over the three octets that all eight places have whole.
+    fn common_at(&self, stream: &[u8], i: usize) -> u64
+        requires { i + 4 < length stream.now }
+        ensures { result ≡ lanes 8 (common_wrong stream.now i) }
+    {
+        self.added(0, stream[i + 1]) + self.added(1, stream[i + 2]) + self.added(2, stream[i + 3])
+    }
 }
 
 // A count above the tolerance has its top bit set in the one sum. One so large that the complement's, which is the rest of the 24 bits, is not above it
@@ -27,84 +29,70 @@ fn tops_apart(counts: u64, tolerance: u32) -> u64
     requires { (counts ≤ 24 * 0x0101010101010101) × (tolerance ≤ 3) }
     ensures { result ≡ tops_apart tolerance counts }
 {
-    let near = tolerance as u64;
+    let near = u64::from(tolerance);
     (counts + (127 - near) * ONES) ^ (counts + (104 + near) * ONES)
 }
 
-fn tops_at(table: &OctetTable, tolerance: u32, stream: &[u8], i: usize) -> u64
-    requires { (tolerance ≤ 3) × (i + 4 < length stream.now) }
-    ensures { TopsTell tolerance stream.now i result }
-{
-    tops_apart(common_at(table, stream, i), tolerance)
-}
+impl<'a> Hunt<'a> {
+    fn tops_at(&self, table: &OctetTable, i: usize) -> u64
+        requires { i + 4 < length self.now.stream.now }
+        ensures { TopsTell self.now.tolerance self.now.stream.now i result }
+    {
+        tops_apart(table.common_at(self.stream, i), self.tolerance)
+    }
 
-fn none_of_four(table: &OctetTable, tolerance: u32, stream: &[u8], i: usize) -> bool
-    requires { (tolerance ≤ 3) × (i + 7 < length stream.now) }
-    ensures { result ≡ true → NoneFits tolerance stream.now (8 * i) (8 * (i + 4)) }
-{
-    let a = tops_at(table, tolerance, stream, i);
-    let b = tops_at(table, tolerance, stream, i + 1);
-    let c = tops_at(table, tolerance, stream, i + 2);
-    let d = tops_at(table, tolerance, stream, i + 3);
-    a & b & c & d & TOPS == TOPS
-}
+    fn none_of_four(&self, table: &OctetTable, i: usize) -> bool
+        requires { i + 7 < length self.now.stream.now }
+        ensures { result ≡ true → NoneFits self.now.tolerance self.now.stream.now (8 * i) (8 * (i + 4)) }
+    {
+        let a = self.tops_at(table, i);
+        let b = self.tops_at(table, i + 1);
+        let c = self.tops_at(table, i + 2);
+        let d = self.tops_at(table, i + 3);
+        a & b & c & d & TOPS == TOPS
+    }
 
-// By fours: how far no place fits as the 24 bits tell.
-fn passed(table: &OctetTable, tolerance: u32, stream: &[u8], first: usize, end: usize) -> usize
-    requires { (tolerance ≤ 3) × (first ≤ end) × (end + 4 ≤ length stream.now) }
-    ensures { (first ≤ result) × (result ≤ end) × NoneFits tolerance stream.now (8 * first) (8 * result) }
-{
-    let mut i = first;
-    while i + 4 <= end {
-        if !none_of_four(table, tolerance, stream, i) {
-            return i;
+    // By fours: how far no place fits as the 24 bits tell.
+    fn passed(&self, table: &OctetTable, first: usize, end: usize) -> usize
+        requires { (first ≤ end) × (end + 4 ≤ length self.now.stream.now) }
+        ensures { (first ≤ result) × (result ≤ end) × NoneFits self.now.tolerance self.now.stream.now (8 * first) (8 * result) }
+    {
+        let last = first + (end - first) / 4 * 4;
+        for i in (first..last).step_by(4) {
+            if !self.none_of_four(table, i) {
+                return i;
+            }
         }
-        i += 4;
+        last
     }
-    i
-}
 
-// Bit by bit.
-fn none_fits(tolerance: u32, stream: &[u8], first: usize, end: usize) -> bool
-    requires { (tolerance ≤ 3) × (first ≤ end) × (end + 4 ≤ length stream.now) × (length stream.now ≤ 65536) }
-    ensures { result ≡ true → NoneFits tolerance stream.now (8 * first) (8 * end) }
-{
-    matches!(
-        walk(
-            tolerance,
-            stream,
-            8 * (first as u64),
-            8 * ((end - first) as u64)
-        ),
-        Searched::Spent { .. }
-    )
-}
-
-fn next_of(i: usize, end: usize) -> usize
-    requires { (i ≤ end) × (end ≤ 65536) }
-    ensures { (i ≤ result) × (result ≤ end) × (end - result ≤ end - i - 4) }
-{
-    if end < i + 4 {
-        return end;
+    // Bit by bit.
+    fn none_fits(&self, first: usize, end: usize) -> bool
+        requires { (first ≤ end) × (end + 4 ≤ length self.now.stream.now) }
+        ensures { result ≡ true → NoneFits self.now.tolerance self.now.stream.now (8 * first) (8 * end) }
+    {
+        matches!(
+            self.walk(8 * (first as u64), 8 * ((end - first) as u64)),
+            Searched::Spent { .. }
+        )
     }
-    i + 4
-}
 
-// The first octet, of those at which it stopped to look bit by bit, from which on a place fits, or `end`. Of four random octets one in some hundred has a place that
-// is near in the 24 bits and does not fit.
-pub(crate) fn skipped(tolerance: u32, stream: &[u8], first: usize, end: usize) -> usize
-    requires { (tolerance ≤ 3) × (first ≤ end) × (end + 4 ≤ length stream.now) × (length stream.now ≤ 65536) }
-    ensures { (first ≤ result) × (result ≤ end) × NoneFits tolerance stream.now (8 * first) (8 * result) }
-{
-    let table = OctetTable::new();
-    let mut i = first;
-    while i < end {
-        let near = passed(&table, tolerance, stream, i, end);
-        let next = next_of(near, end);
-        if !none_fits(tolerance, stream, near, next) {
-            return near;
+    // The first octet, of those at which it stopped to look bit by bit, from which on a place fits, or `end`. Of four random octets one in some hundred has a place
+    // that is near in the 24 bits and does not fit.
+    pub(crate) fn skipped(&self, first: usize, end: usize) -> usize
+        requires { (first ≤ end) × (end + 4 ≤ length self.now.stream.now) }
+        ensures { (first ≤ result) × (result ≤ end) × NoneFits self.now.tolerance self.now.stream.now (8 * first) (8 * result) }
+    {
+        let table = OctetTable::new();
+        let mut i = first;
+        while i < end {
+            let near = self.passed(&table, i, end);
+            let next = end.min(near + 4);
+            if !self.none_fits(near, next) {
+                return near;
+            }
+            i = next;
         }
-        i = next;
+        end
     }
-    end
 }

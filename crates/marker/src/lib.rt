@@ -1,6 +1,7 @@
 // The attached sync marker: its test and its search.
 #![tactic(auto)]
 
+mod hunt;
 mod lanes;
 mod searching;
 mod table;

@@ -4,8 +4,7 @@ ghost use Rattle.marker.specs.Place.{NoneFits, remaining};
 ghost use Rattle.marker.specs.Outcome.{Looked, SearchOutcome};
 
 use crate::Searched;
-use crate::lanes::skipped;
-use crate::walking::walk;
+use crate::hunt::Hunt;
 use refusals::Parameter;
 
 // No stream has more places.
@@ -22,72 +21,60 @@ fn whole_octets(octets: usize, start: u64, budget: u64) -> usize
     requires { (octets ≤ 65536) × (start ≤ 8 * octets) }
     ensures { (8 * result ≤ start + budget) × (result ≤ octets - 4) }
 {
-    if octets < 4 {
-        return 0;
-    }
-    let last = octets - 4;
-    if budget >= MOST {
-        return last;
-    }
-    let affordable = ((start + budget) / 8) as usize;
-    if affordable < last {
-        return affordable;
-    }
-    last
+    let affordable = ((start + budget.min(MOST)) / 8) as usize;
+    affordable.min(octets.saturating_sub(4))
 }
 
-// The walk goes on behind the first `before` places, none of which fits.
-fn walk_on(tolerance: u32, stream: &[u8], start: u64, budget: u64, before: u64) -> Searched
-    requires { (tolerance ≤ 3) × (length stream.now ≤ 65536) × (start ≤ 8 * length stream.now) × (before ≤ budget) × (before ≤ remaining stream.now start) × NoneFits tolerance stream.now start (start + before) }
-    ensures { Looked tolerance stream.now start budget result }
-{
-    match walk(tolerance, stream, start + before, budget - before) {
-        Searched::Found {
-            place,
-            form,
-            wrong,
-            looked,
-        } => Searched::Found {
-            place,
-            form,
-            wrong,
-            looked: before + looked,
-        },
-        Searched::Absent { looked } => Searched::Absent {
-            looked: before + looked,
-        },
-        Searched::Spent { place, looked } => Searched::Spent {
-            place,
-            looked: before + looked,
-        },
-    }
-}
-
-// The first places bit by bit, up to an octet's beginning; then the octets in which none fits are passed over.
-fn look(tolerance: u32, stream: &[u8], start: u64, budget: u64) -> Searched
-    requires { (tolerance ≤ 3) × (length stream.now ≤ 65536) × (start ≤ 8 * length stream.now) }
-    ensures { Looked tolerance stream.now start budget result }
-{
-    let first = ((start + 7) / 8) as usize + NEAR;
-    let end = whole_octets(stream.len(), start, budget);
-    if end < first + PAYS {
-        return walk(tolerance, stream, start, budget);
-    }
-    let near = walk(tolerance, stream, start, 8 * (first as u64) - start);
-    if let Searched::Spent {
-        place: _,
-        looked: _,
-    } = near
+impl<'a> Hunt<'a> {
+    // The walk goes on behind the first `before` places, none of which fits.
+    fn walk_on(&self, start: u64, budget: u64, before: u64) -> Searched
+        requires { (start ≤ 8 * length self.now.stream.now) × (before ≤ budget) × (before ≤ remaining self.now.stream.now start) × NoneFits self.now.tolerance self.now.stream.now start (start + before) }
+        ensures { Looked self.now.tolerance self.now.stream.now start budget result }
     {
-        let octet = skipped(tolerance, stream, first, end);
-        return walk_on(tolerance, stream, start, budget, 8 * (octet as u64) - start);
+        match self.walk(start + before, budget - before) {
+            Searched::Found {
+                place,
+                form,
+                wrong,
+                looked,
+            } => Searched::Found {
+                place,
+                form,
+                wrong,
+                looked: before + looked,
+            },
+            Searched::Absent { looked } => Searched::Absent {
+                looked: before + looked,
+            },
+            Searched::Spent { place, looked } => Searched::Spent {
+                place,
+                looked: before + looked,
+            },
+        }
     }
-    near
+
+    // The first places bit by bit, up to an octet's beginning; then the octets in which none fits are passed over.
+    fn look(&self, start: u64, budget: u64) -> Searched
+        requires { start ≤ 8 * length self.now.stream.now }
+        ensures { Looked self.now.tolerance self.now.stream.now start budget result }
+    {
+        let first = ((start + 7) / 8) as usize + NEAR;
+        let end = whole_octets(self.stream.len(), start, budget);
+        if end < first + PAYS {
+            return self.walk(start, budget);
+        }
+        let near = self.walk(start, 8 * (first as u64) - start);
+        if let Searched::Spent { .. } = near {
+            let octet = self.skipped(first, end);
+            return self.walk_on(start, budget, 8 * (octet as u64) - start);
+        }
+        near
+    }
 }
 
 pub fn search(tolerance: u32, stream: &[u8], start: u64, budget: u64) -> Result<Searched, Parameter>
     ensures { SearchOutcome tolerance stream.now start budget result }
 {
     refusals::search_parameters(tolerance, stream.len(), start)?;
-    Ok(look(tolerance, stream, start, budget))
+    Ok(Hunt { tolerance, stream }.look(start, budget))
 }

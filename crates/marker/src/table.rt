@@ -143,6 +143,6 @@ impl OctetTable {
         requires { k < 3 }
         ensures { result ≡ octet_adds (256 * k + octet) }
     {
-        self.sums[256 * k + octet as usize]
+        self.sums[256 * k + usize::from(octet)]
     }
 }

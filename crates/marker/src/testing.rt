@@ -4,15 +4,14 @@ ghost use Rattle.marker.specs.Place.{form_at, fewest_wrong};
 ghost use Rattle.marker.specs.Outcome.{TestOutcome};
 
 use crate::Near;
-use crate::window::{front_entered, nearer_form};
+use crate::window::nearer_form;
 use refusals::MarkerRefusal;
 
 fn nearer_in(octets: &[u8]) -> Near
     requires { length octets.now ≡ 4 }
     ensures { (result.form ≡ form_at octets.now 0) × (result.wrong ≡ fewest_wrong octets.now 0) }
 {
-    let half = front_entered(front_entered(0, octets[0], 8), octets[1], 8);
-    nearer_form(front_entered(front_entered(half, octets[2], 8), octets[3], 8))
+    nearer_form(u32::from_be_bytes([octets[0], octets[1], octets[2], octets[3]]))
 }
 
 pub fn test(tolerance: u32, octets: &[u8]) -> Result<Near, MarkerRefusal>

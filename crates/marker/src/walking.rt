@@ -1,32 +1,17 @@
 // The search bit by bit: one place after the other.
-ghost use Rattle.std.specs.Prelude.{◌≡◌, ◌+◌, ◌-◌, ◌*◌, ◌<◌, ◌≤◌, length, bit_xor, count_ones};
-ghost use Rattle.marker.specs.Place.{nearer, fewer};
-ghost use Rattle.marker.specs.Working.{Carried};
+ghost use Rattle.std.specs.Prelude.{◌≡◌, ◌+◌, ◌-◌, ◌*◌, ◌<◌, ◌≤◌, length};
+ghost use Rattle.marker.specs.Working.{Carried, form_in, fewest_in};
 ghost use Rattle.marker.specs.Outcome.{Looked};
 ghost use Rattle.marker.specs.declared.Searched.TheVariants.{Found};
 
-use crate::Searched;
+use crate::hunt::Hunt;
 use crate::window::{bit_entered, front_entered, is_near, nearer_form};
-
-// The window before the last bit of the first place, which is the first bit that is looked at.
-fn window_before(stream: &[u8], start: u64) -> u32
-    requires { (start + 31 < 8 * length stream.now) × (length stream.now ≤ 65536) }
-    ensures { Carried stream.now start (start + 31) result }
-{
-    let end = ((start + 31) / 8) as usize;
-    let mut window: u32 = 0;
-    for i in (start / 8) as usize..end {
-        window = front_entered(window, stream[i], 8);
-    }
-    front_entered(window, stream[end], ((start + 31) % 8) as usize)
-}
+use crate::{Near, Searched};
 
 fn found(window: u32, place: u64, looked: u64) -> Searched
-    ensures { result ≡ Found place (nearer (count_ones (bit_xor window 0x1ACFFC1D)) (32 - count_ones (bit_xor window 0x1ACFFC1D))) (fewer (count_ones (bit_xor window 0x1ACFFC1D)) (32 - count_ones (bit_xor window 0x1ACFFC1D))) looked }
+    ensures { result ≡ Found place (form_in window) (fewest_in window) looked }
 {
-    let near = nearer_form(window);
-    let form = near.form;
-    let wrong = near.wrong;
+    let Near { form, wrong } = nearer_form(window);
     Searched::Found {
         place,
         form,
@@ -35,38 +20,53 @@ fn found(window: u32, place: u64, looked: u64) -> Searched
     }
 }
 
-// The window is carried from bit to bit, so that a place costs one shift.
-pub(crate) fn walk(tolerance: u32, stream: &[u8], start: u64, budget: u64) -> Searched
-    requires { (tolerance ≤ 3) × (length stream.now ≤ 65536) × (start ≤ 8 * length stream.now) }
-    ensures { Looked tolerance stream.now start budget result }
+// The window before the last bit of the first place, which is the first bit that is looked at.
+fn window_before(stream: &[u8], start: u64) -> u32
+    requires { (start + 31 < 8 * length stream.now) × (length stream.now ≤ 65536) }
+    ensures { Carried stream.now start (start + 31) result }
 {
-    let octets = stream.len();
-    let first = ((start + 31) / 8) as usize;
-    if first >= octets {
-        return Searched::Absent { looked: 0 };
+    let end = ((start + 31) / 8) as usize;
+    let mut window: u32 = 0;
+    for octet in &stream[(start / 8) as usize..end] {
+        window = front_entered(window, *octet, 8);
     }
-    let mut window = window_before(stream, start);
-    let mut from = ((start + 31) % 8) as usize;
-    let mut looked: u64 = 0;
-    'octets: for i in first..octets {
-        for b in from..8 {
-            window = bit_entered(window, stream[i], b);
-            if looked == budget {
-                break 'octets;
-            }
-            if is_near(window, tolerance) {
-                return found(window, start + looked, looked + 1);
-            }
-            looked += 1;
+    front_entered(window, stream[end], ((start + 31) % 8) as usize)
+}
+
+impl<'a> Hunt<'a> {
+    // The window is carried from bit to bit, so that a place costs one shift.
+    pub(crate) fn walk(&self, start: u64, budget: u64) -> Searched
+        requires { start ≤ 8 * length self.now.stream.now }
+        ensures { Looked self.now.tolerance self.now.stream.now start budget result }
+    {
+        let octets = self.stream.len();
+        let first = ((start + 31) / 8) as usize;
+        if first >= octets {
+            return Searched::Absent { looked: 0 };
         }
-        from = 0;
+        let mut window = window_before(self.stream, start);
+        let mut from = ((start + 31) % 8) as usize;
+        let mut looked: u64 = 0;
+        'octets: for octet in &self.stream[first..] {
+            for b in from..8 {
+                window = bit_entered(window, *octet, b);
+                if looked == budget {
+                    break 'octets;
+                }
+                if is_near(window, self.tolerance) {
+                    return found(window, start + looked, looked + 1);
+                }
+                looked += 1;
+            }
+            from = 0;
+        }
+        let next = start + looked;
+        if next + 32 <= 8 * (octets as u64) {
+            return Searched::Spent {
+                place: next,
+                looked,
+            };
+        }
+        Searched::Absent { looked }
     }
-    let next = start + looked;
-    if next + 32 <= 8 * (octets as u64) {
-        return Searched::Spent {
-            place: next,
-            looked,
-        };
-    }
-    Searched::Absent { looked }
 }

@@ -1,6 +1,6 @@
 // The 32 received bits at a place as a number, first bit highest, its wrong bits and the form that it is nearer to.
-ghost use Rattle.std.specs.Prelude.{◌≡◌, ◌+◌, ◌-◌, ◌*◌, ◌/◌, ◌%◌, ◌^◌, ◌<◌, ◌≤◌, bit_xor, count_ones, nat_le};
-ghost use Rattle.marker.specs.Place.{nearer, fewer};
+ghost use Rattle.std.specs.Prelude.{◌≡◌, ◌+◌, ◌-◌, ◌*◌, ◌/◌, ◌%◌, ◌^◌, ◌<◌, ◌≤◌, nat_le};
+ghost use Rattle.marker.specs.Working.{wrong_in, form_in, fewest_in};
 
 use crate::{Form, Near};
 
@@ -8,7 +8,7 @@ use crate::{Form, Near};
 const MARKER: u32 = 0x1ACFFC1D;
 
 pub(crate) fn wrong_bits(window: u32) -> u32
-    ensures { result ≡ count_ones (bit_xor window 0x1ACFFC1D) }
+    ensures { result ≡ wrong_in window }
 {
     (window ^ MARKER).count_ones()
 }
@@ -17,14 +17,14 @@ pub(crate) fn wrong_bits(window: u32) -> u32
 // between, as one within the tolerance of 32 does.
 pub(crate) fn is_near(window: u32, tolerance: u32) -> bool
     requires { tolerance ≤ 3 }
-    ensures { result ≡ nat_le (fewer (count_ones (bit_xor window 0x1ACFFC1D)) (32 - count_ones (bit_xor window 0x1ACFFC1D))) tolerance }
+    ensures { result ≡ nat_le (fewest_in window) tolerance }
 {
     wrong_bits(window).wrapping_sub(tolerance + 1) >= 31 - 2 * tolerance
 }
 
 // The form that the window is nearer to; one count serves both.
 pub(crate) fn nearer_form(window: u32) -> Near
-    ensures { (result.form ≡ nearer (count_ones (bit_xor window 0x1ACFFC1D)) (32 - count_ones (bit_xor window 0x1ACFFC1D))) × (result.wrong ≡ fewer (count_ones (bit_xor window 0x1ACFFC1D)) (32 - count_ones (bit_xor window 0x1ACFFC1D))) }
+    ensures { (result.form ≡ form_in window) × (result.wrong ≡ fewest_in window) }
 {
     let wrong = wrong_bits(window);
     if wrong <= 16 {
@@ -44,7 +44,7 @@ pub(crate) fn bit_entered(window: u32, octet: u8, b: usize) -> u32
     requires { b < 8 }
     ensures { result ≡ window * 2 % 2 ^ 32 + octet / 2 ^ (7 - b) % 2 }
 {
-    (window << 1) + ((octet >> (7 - b)) % 2) as u32
+    (window << 1) + u32::from((octet >> (7 - b)) % 2)
 }
 
 // The window moved on by the first n bits of an octet.
@@ -52,5 +52,5 @@ pub(crate) fn front_entered(window: u32, octet: u8, n: usize) -> u32
     requires { n ≤ 8 }
     ensures { result ≡ window * 2 ^ n % 2 ^ 32 + octet / 2 ^ (8 - n) }
 {
-    (window << n) + (octet as u32 >> (8 - n))
+    (window << n) + (u32::from(octet) >> (8 - n))
 }

@@ -5,4 +5,4 @@ use Rattle.marker.proofs.lanes.tops_apart.Goals as goal
 
 pub returns : goal.returns
 unfolding tops_apart
-returns c = refl
+returns c = rw c.from-near.ensures refl

@@ -3,4 +3,4 @@ use Rattle.marker.proofs.Searches.{legal_given}
 use Rattle.marker.proofs.searching.search.Goals as goal
 
 pub look-requires : goal.look-requires
-look-requires c = legal_given c.in_ok-search_parameters.ensures
+look-requires c = (legal_given c.in_ok-search_parameters.ensures).2

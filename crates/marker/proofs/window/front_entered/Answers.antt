@@ -6,4 +6,4 @@ use Rattle.marker.proofs.window.front_entered.Goals as goal
 pub overflow_add-result : goal.overflow_add-result
 overflow_add-result c =
     let a = c.args in
-    omega (arith, front_fits a.window a.octet a.n (omega arith) (omega arith) (omega arith))
+    omega (arith, front_fits a.window c.from.result a.n (omega arith) (omega arith) (omega arith))

@@ -2,7 +2,7 @@
 use Rattle.std.proofs.Common.{eqb-true}
 use Rattle.marker.proofs.Packed.{tops_kept}
 use Rattle.marker.proofs.Skipping.{none_in_four}
-use Rattle.marker.proofs.lanes.none_of_four.Goals as goal
+use Rattle.marker.proofs.hunt.Hunt.none_of_four.Goals as goal
 
 pub returns : goal.returns
 returns c = λ e.

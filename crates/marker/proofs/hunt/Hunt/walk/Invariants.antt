@@ -2,18 +2,16 @@
 -- Where the loops are left and nothing was found, by the budget or at the end, `Stopped` holds, from which either answer follows.
 use Rattle.std.proofs.Common.{◌≡◌, ◌+◌, ◌-◌, ◌*◌, ◌<◌, ◌≤◌, length}
 use Rattle.marker.proofs.Sofar.{Sofar}
-use Rattle.marker.proofs.walking.walk.Given as goal
+use Rattle.marker.proofs.hunt.Hunt.walk.Given as goal
 
 abbrev pub invariant-loop-b : goal.invariant-loop-b
 invariant-loop-b l =
-    (l.b ≤ 8) × (l.i < l.octets) × (l.octets ≡ length l.stream) × Sofar l.tolerance l.stream l.start l.budget (l.i * 8 + l.b) l.window l.looked
+    (l.b ≤ 8) × (l.first + l.octet-index < l.octets) × (l.octets ≡ length l.self.stream.now) × Sofar l.self.tolerance l.self.stream.now l.start l.budget ((l.first + l.octet-index) * 8 + l.b) l.window l.looked
 
 abbrev pub decreases-loop-b : goal.decreases-loop-b
 decreases-loop-b l = 8 - l.b
 
 abbrev pub invariant-octets : goal.invariant-octets
 invariant-octets l =
-    (l.i ≤ l.octets) × (l.octets ≡ length l.stream) × (l.from < 8) × (l.i * 8 + l.from ≤ l.octets * 8) × Sofar l.tolerance l.stream l.start l.budget (l.i * 8 + l.from) l.window l.looked
-
-abbrev pub decreases-octets : goal.decreases-octets
-decreases-octets l = l.octets - l.i
+    (l.first + l.octet-index ≤ l.octets) × (l.octets ≡ length l.self.stream.now) × (l.from < 8) × ((l.first + l.octet-index) * 8 + l.from ≤ l.octets * 8)
+    × Sofar l.self.tolerance l.self.stream.now l.start l.budget ((l.first + l.octet-index) * 8 + l.from) l.window l.looked

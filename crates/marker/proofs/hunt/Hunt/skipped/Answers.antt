@@ -1,7 +1,7 @@
 -- `skipped` goes on behind the octets passed, and behind those in which bit by bit no place fits.
 use Rattle.std.proofs.Common.{arith}
 use Rattle.marker.proofs.Passing.{none_joined}
-use Rattle.marker.proofs.lanes.skipped.Goals as goal
+use Rattle.marker.proofs.hunt.Hunt.skipped.Goals as goal
 
 pub loop-i-init : goal.loop-i-init
 loop-i-init c = (omega arith, omega arith, λ p from below. absurd (omega arith))
@@ -17,7 +17,7 @@ loop-i-preserved c =
     let front = c.loop-i.invariant.2 in
     let near = c.passed-near.ensures in
     let none = c.none_fits.ensures c.if-not-none_fits.false in
-    (omega arith, c.next_of-next.ensures.1, none_joined _ _ _ _ _ (none_joined _ _ _ _ _ front near.2) none)
+    (omega arith, omega arith, none_joined _ _ _ _ _ (none_joined _ _ _ _ _ front near.2) none)
 
 pub returns : goal.returns
 returns c =

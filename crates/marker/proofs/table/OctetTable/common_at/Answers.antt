@@ -1,7 +1,7 @@
 -- `common_at` adds what each of the three octets adds.
 use Rattle.std.proofs.Common.{arith}
 use Rattle.marker.proofs.OctetTable.{octet_most, common_are}
-use Rattle.marker.proofs.lanes.common_at.Goals as goal
+use Rattle.marker.proofs.table.OctetTable.common_at.Goals as goal
 
 pub overflow_add-result : goal.overflow_add-result
 overflow_add-result c = omega (arith, octet_most _ c.added.ensures, octet_most _ c.added-2.ensures)

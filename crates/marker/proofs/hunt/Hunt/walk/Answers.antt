@@ -1,15 +1,16 @@
 -- `walk` answers what it saw. Both loops keep `Sofar` before the next bit, i * 8 + b; the measures are the bits and the octets left.
 -- Where the loops are left and nothing was found, by the budget or at the end, `Stopped` holds, from which either answer follows.
 use Rattle.std.proofs.Common.{sym, refl, ◌∙◌, arith, leb-false, leb-true}
+use Rattle.std.proofs.lemmas.Grind.{common_steps}
 use Rattle.marker.proofs.Sofar.{Stopped, begins, moved, onward, found, out_of_budget, none_there, ended, spent, absent}
-use Rattle.marker.proofs.walking.walk.Goals as goal
-use Rattle.marker.proofs.walking.walk.Goals.{Left-octets, else-octets-test, then-octets-test+then-loop-b-test+then-looked-budget}
+use Rattle.marker.proofs.hunt.Hunt.walk.Goals as goal
+use Rattle.marker.proofs.hunt.Hunt.walk.Goals.{Left-octets, else-octets-test, then-octets-test+then-loop-b-test+then-looked-budget}
 
 -- Both ways out at which nothing was found.
 abbrev StoppedAt : (c : Left-octets) → Type 0
 StoppedAt c =
     let given = c.args in
-    Stopped given.tolerance given.stream.now given.start given.budget c.octets-test.looked
+    Stopped given.self.now.tolerance given.self.now.stream.now given.start given.budget c.octets-test.looked
 
 stopped : (c : Left-octets) → StoppedAt c
 stopped c =
@@ -31,7 +32,7 @@ loop-b-init c = (omega arith, omega arith, refl, c.octets.invariant.4)
 pub returns-then-is_near : goal.returns-then-is_near
 returns-then-is_near c =
     rw c.found.ensures
-    (found _ _ c.loop-b-test.true c.loop-b.invariant.3 c.bit_entered-window.ensures c.if-looked-budget.false (refl, refl)
+    (found _ _ c.loop-b-test.true c.loop-b.invariant.3 (grind (arith, common_steps)) c.if-looked-budget.false (refl, refl)
     (leb-true _ _ (sym c.is_near.ensures ∙ c.if-is_near.true)) (omega arith))
 
 pub loop-b-preserved : goal.loop-b-preserved
@@ -39,7 +40,7 @@ loop-b-preserved c = (
   omega arith,
   omega arith,
   refl,
-  onward _ _ c.loop-b-test.true c.loop-b.invariant.3 c.bit_entered-window.ensures c.if-looked-budget.false (refl, refl)
+  onward _ _ c.loop-b-test.true c.loop-b.invariant.3 (grind (arith, common_steps)) c.if-looked-budget.false (refl, refl)
       (leb-false _ _ (sym c.is_near.ensures ∙ c.if-is_near.false)),
 )
 
