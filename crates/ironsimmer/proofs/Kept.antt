@@ -1,28 +1,27 @@
 -- What the header says of a refusal: all that C lent to be written holds what it held. Of any outcome that the contracts permit.
+use Rattle.std.specs.Prelude.{Ok, Err}
+use Rattle.reed_solomon.specs.Outcome.{Decoded}
+use Rattle.chain.specs.Outcome.{Received}
 use mathlib.Core.Path.{◌≡◌, ◌∙◌}
 use mathlib.Core.Logic.{◌≢◌}
 use mathlib.Core.List.{List}
 use Prim.Native.Nat.{ℕ}
 use Rattle.refusals.specs.Numbers.{verdict_number}
-use Rattle.reed_solomon.specs.declared.Decoded.{Decoded}
-use Rattle.reed_solomon.specs.declared.Decoded.TheVariants as decoded
 use Rattle.reed_solomon.specs.Outcome.{decoded_number, decoded_value}
-use Rattle.chain.specs.declared.Received.{Received}
-use Rattle.chain.specs.declared.Received.TheVariants as received
 use Rattle.chain.specs.Outcome.{received_number, received_value}
 use Rattle.convolution.specs.Outcome.{convolved_number}
 use Rattle.viterbi.specs.Outcome.{sought_number}
 use Rattle.ironsimmer.specs.Exported.{code, EncodeCall, PortionCall, CloseCall, RandomiseCall, TransmitCall, DecodeCall, ReceiveCall, SalvageCall, MarkerCall, SearchCall, ConvolveCall, ConvolveCloseCall, LikeliestCall}
-use Rattle.ironsimmer.proofs.Answers.{word-nonzero, stage-nonzero}
+use Rattle.ironsimmer.proofs.Numbered.{word-nonzero, stage-nonzero}
 
 -- An answer other than 0 is one of a refusal.
 decoded_refused : (a : Decoded) → code (decoded_number a) (decoded_value a) ≢ 0 → decoded_number a ≢ 0
-decoded_refused decoded.Delivered n = n
-decoded_refused (decoded.Refused r) n = word-nonzero r
+decoded_refused (Ok done) n = n
+decoded_refused (Err r) n = word-nonzero r
 
 received_refused : (a : Received) → code (received_number a) (received_value a) ≢ 0 → received_number a ≢ 0
-received_refused received.Delivered n = n
-received_refused (received.Refused s) n = stage-nonzero s
+received_refused (Ok done) n = n
+received_refused (Err s) n = stage-nonzero s
 
 -- The thirteen calls that can refuse: an answer other than 0 leaves every buffer, count, report and state as it was.
 pub record KeptOnARefusal : Type 0 where
@@ -66,7 +65,7 @@ kept_on_a_refusal =
       marker = λ tolerance octets before answer after C n. C.lent.refused (λ z. n (C.accepted z));
       search = λ tolerance stream start budget before answer after C n. C.reported.lent.refused (λ z. n (C.reported.coded ∙ z));
       convolve = λ rate octets input before counted answer octets' after count C n.
-          let refuses : convolved_number C.ran.answer ≢ 0 = λ z. n (C.put.reported.coded ∙ z) in
+          let refuses : convolved_number C.convolved ≢ 0 = λ z. n (C.put.reported.coded ∙ z) in
           (C.put.held.refused refuses, (C.outcome.refused refuses).1, C.put.reported.lent.refused refuses);
       convolve_close = λ rate octets before counted answer after count C n.
           let refuses : convolved_number C.convolved ≢ 0 = λ z. n (C.put.coded ∙ z) in (C.outcome.refused refuses, C.put.lent.refused refuses);

@@ -1,15 +1,15 @@
 -- Every exported call is settled by its contract: two outcomes that it permits for one input are equal, answer, report and buffers.
+use Rattle.refusals.specs.Numbers.{Verdict}
 use mathlib.Core.Bool.{Bool}
 use mathlib.Core.Path.{◌≡◌, sym, ap, ap₂, ◌∙◌, subst}
 use mathlib.Core.List.{List, [], ◌∷◌, ◌++◌}
 use Prim.Native.Nat.{ℕ}
 use native.Mathlib.Decide.{ℕ_discrete}
 use Rattle.refusals.specs.Numbers.{verdict_number}
-use Rattle.refusals.specs.declared.Verdict.{Verdict}
 use Rattle.encoding.specs.Outcome.{EncodeOutcome}
 use Rattle.reed_solomon.specs.Outcome.{decoded_number, decoded_value}
 use Rattle.frame_portions.specs.declared.Progress.{Progress}
-use Rattle.frame_portions.specs.Portions.{octet_rows, PortionOutcome, CloseOutcome}
+use Rattle.frame_portions.specs.Portions.{PortionOutcome, CloseOutcome}
 use Rattle.encoding.proofs.Settled.{encode_settled}
 use Rattle.frame_portions.proofs.Portions.{portion_settled, close_settled}
 use Rattle.reed_solomon.proofs.DecodeSettled.{decode_settled}
@@ -18,9 +18,7 @@ use Rattle.randomiser.specs.Outcome.{NextOutcome, RandomiseOutcome}
 use Rattle.randomiser.proofs.Settled.{next_bits_settled, randomise_settled}
 use Rattle.marker.specs.Outcome.{tested_number, tested_value, searched_number}
 use Rattle.marker.proofs.Settled.{test_settled, search_settled}
-use Rattle.convolution.specs.declared.Ran.{Ran}
-use Rattle.convolution.specs.declared.Convolved.{Convolved}
-use Rattle.convolution.specs.Outcome.{convolved_number, convolved_count}
+use Rattle.convolution.specs.Outcome.{Convolved, convolved_number, convolved_count}
 use Rattle.convolution.proofs.Settled as coder
 use Rattle.viterbi.specs.Outcome.{sought_number}
 use Rattle.viterbi.proofs.Settled.{likeliest_settled}
@@ -54,7 +52,7 @@ portioning_call_settled Permits settled numbers rows m n j k r t a b x y =
     let same = settled x.verdict y.verdict x.next y.next a b x.outcome y.outcome in (
       x.put.coded ∙ ap verdict_number same.0 ∙ sym y.put.coded,
       lent_settled _ _ _ _ numbers j k (ap verdict_number same.0) (ap state_numbers same.1) x.put.told y.put.told,
-      lent_settled _ _ _ _ rows r t (ap verdict_number same.0) (ap (λ (s : Progress). octet_rows s.rows) same.1) x.put.held y.put.held,
+      lent_settled _ _ _ _ rows r t (ap verdict_number same.0) (ap (λ (s : Progress). s.rows) same.1) x.put.held y.put.held,
       same.2,
     )
 
@@ -136,12 +134,11 @@ module _ (m n : ℕ) (a b : List ℕ) where
   pub ironsimmer_convolve_settled : (rate : ℕ) (octets input before : List ℕ) (counted : ℕ) (j k : List ℕ) (c d : ℕ) → ConvolveCall rate octets input before counted m j a c
       → ConvolveCall rate octets input before counted n k b d → (m ≡ n) × (j ≡ k) × (a ≡ b) × (c ≡ d)
   ironsimmer_convolve_settled rate octets input before counted j k c d x y =
-      let same = coder.convolve_settled rate (coder_of octets) before a b input x.ran y.ran x.outcome y.outcome in
-      let answers : x.ran.answer ≡ y.ran.answer = ap (λ (ran : Ran). ran.answer) same.0 in
-      let counts = count_put_settled _ _ counted m n c d answers x.put.reported y.put.reported in (
+      let same = coder.convolve_settled rate (coder_of octets) before a b input x.convolved y.convolved x.next y.next x.outcome y.outcome in
+      let counts = count_put_settled _ _ counted m n c d same.0 x.put.reported y.put.reported in (
         counts.0,
-        lent_settled _ _ _ _ octets j k (ap convolved_number answers) (ap (λ (ran : Ran). coder_octets ran.state) same.0) x.put.held y.put.held,
-        same.1,
+        lent_settled _ _ _ _ octets j k (ap convolved_number same.0) (ap coder_octets same.1) x.put.held y.put.held,
+        same.2,
         counts.1,
       )
 

@@ -1,27 +1,20 @@
 -- What the exported calls answer and leave, by the outcomes of the calls beneath (document 01, "Refusal numbers and the order of checks"; document 02,
 -- (ii), (iii), (v), (vi) and (vii)).
-use Rattle.std.specs.Prelude.{◌≡◌, Bool, true, false, not, ◌≢◌, List, [], ◌∷◌, ◌++◌, ℕ, ◌+◌, ◌*◌, eqb, get_or}
-use Rattle.refusals.specs.Numbers.{verdict_number}
-use Rattle.refusals.specs.declared.Verdict.{Verdict}
+use Rattle.std.specs.Prelude.{◌≡◌, Bool, true, false, not, ◌≢◌, Ok, Err, List, [], ◌∷◌, ◌++◌, ℕ, ◌+◌, ◌*◌, eqb, get_or}
+use Rattle.refusals.specs.Numbers.{Verdict, verdict_number}
 use Rattle.encoding.specs.Outcome.{EncodeOutcome}
 use Rattle.reed_solomon.specs.Outcome.{DecodeOutcome, decoded_number, decoded_value}
 use Rattle.reed_solomon.specs.Salvaging.{SalvageOutcome}
 use Rattle.frame_portions.specs.declared.Progress.{Progress}
-use Rattle.frame_portions.specs.Portions.{octet_rows, held_rows, PortionOutcome, CloseOutcome}
+use Rattle.frame_portions.specs.Portions.{PortionOutcome, CloseOutcome}
 use Rattle.randomiser.specs.Outcome.{RandomiseOutcome}
 use Rattle.marker.specs.declared.Form.{Form}
 use Rattle.marker.specs.declared.Form.TheVariants.{True, Complement}
-use Rattle.marker.specs.declared.Tested.{Tested}
-use Rattle.marker.specs.declared.Tested.TheVariants as test
-use Rattle.marker.specs.declared.Searched.{Searched}
-use Rattle.marker.specs.declared.Searched.TheVariants.{Found, Absent, Spent, Refused}
-use Rattle.marker.specs.Outcome.{tested_number, tested_value, searched_number, TestOutcome, SearchOutcome}
+use Rattle.marker.specs.declared.Searched.TheVariants.{Found, Absent, Spent}
+use Rattle.marker.specs.Outcome.{TestAnswer, SearchAnswer, tested_number, tested_value, searched_number, TestOutcome, SearchOutcome}
 use Rattle.convolution.specs.declared.State.{State}
-use Rattle.convolution.specs.declared.Convolved.{Convolved}
-use Rattle.convolution.specs.declared.Ran.{Ran}
 use Rattle.convolution.specs.Outcome as coder
-use Rattle.viterbi.specs.declared.Sought.{Sought}
-use Rattle.viterbi.specs.Outcome.{sought_number, sought_places, sought_register, LikeliestOutcome}
+use Rattle.viterbi.specs.Outcome.{Sought, sought_number, sought_places, sought_register, LikeliestOutcome}
 use Rattle.chain.specs.Outcome.{TransmitOutcome, ReceiveOutcome, received_number, received_value}
 
 -- An answer in one number: the refusal's number, 0 if accepted, in the lowest eight bits, and the refusal's value above them.
@@ -64,7 +57,7 @@ TransmitCall e i q randomised frame before answer after = VerdictCall (TransmitO
 
 -- The state of a frame in portions as C lends it: two numbers, its place and 0 while it is open, and the octets of its rows.
 abbrev pub state_of : List ℕ → List (List ℕ) → Progress
-state_of numbers rows = record { place = get_or numbers 0 0; closed = flag (get_or numbers 1 0); rows = held_rows rows }
+state_of numbers rows = record { place = get_or numbers 0 0; closed = flag (get_or numbers 1 0); rows = rows }
 
 abbrev pub state_numbers : Progress → List ℕ
 state_numbers state = state.place ∷ truth state.closed ∷ []
@@ -73,7 +66,7 @@ state_numbers state = state.place ∷ truth state.closed ∷ []
 pub record StatePut (verdict : Verdict) (next : Progress) (numbers : List ℕ) (rows : List (List ℕ)) (answer : ℕ) (numbers' : List ℕ) (rows' : List (List ℕ)) : Type 0 where
   pub coded : answer ≡ verdict_number verdict
   pub told : Lent (verdict_number verdict) (state_numbers next) numbers numbers'
-  pub held : Lent (verdict_number verdict) (octet_rows next.rows) rows rows'
+  pub held : Lent (verdict_number verdict) next.rows rows rows'
 
 -- A call on a frame in portions: a verdict, a state and a buffer that the outcome permits, the state put in place.
 pub record PortioningCall (Permits : Verdict → Progress → List ℕ → Type 0) (numbers : List ℕ) (rows : List (List ℕ)) (answer : ℕ)
@@ -130,33 +123,33 @@ pub record SalvageCall (e i q s : ℕ) (block before listed reported : List ℕ)
   pub lent : Lent (verdict_number verdict) (salvage_listed marks counts entries) reported report
 
 -- What an accepted marker test reports: the form, and its wrong bits.
-abbrev pub test_report : Tested → List ℕ
-test_report (test.Accepted form wrong) = form_number form ∷ wrong ∷ []
-test_report (test.Refused r) = []
+abbrev pub test_report : TestAnswer → List ℕ
+test_report (Ok near) = form_number near.form ∷ near.wrong ∷ []
+test_report (Err r) = []
 
 -- The marker test: if accepted it reports; if refused by 9 it has the fewest wrong bits as the refusal's value.
 pub record MarkerCall (tolerance : ℕ) (octets before : List ℕ) (answer : ℕ) (after : List ℕ) : Type 0 where
-  pub tested : Tested
+  pub tested : TestAnswer
   pub outcome : TestOutcome tolerance octets tested
   pub coded : tested_number tested ≢ 0 → answer ≡ code (tested_number tested) (tested_value tested)
   pub accepted : tested_number tested ≡ 0 → answer ≡ 0
   pub lent : Lent (tested_number tested) (test_report tested) before after
 
 -- What an accepted search reports: 1 found, 2 absent, 3 spent; the place, 0 if absent; the wrong bits, 0 unless found; the places looked at; the form, 0 unless found.
-abbrev pub search_report : Searched → List ℕ
-search_report (Found place form wrong looked) = 1 ∷ place ∷ wrong ∷ looked ∷ form_number form ∷ []
-search_report (Absent looked) = 2 ∷ 0 ∷ 0 ∷ looked ∷ 0 ∷ []
-search_report (Spent place looked) = 3 ∷ place ∷ 0 ∷ looked ∷ 0 ∷ []
-search_report (Refused p) = []
+abbrev pub search_report : SearchAnswer → List ℕ
+search_report (Ok (Found place form wrong looked)) = 1 ∷ place ∷ wrong ∷ looked ∷ form_number form ∷ []
+search_report (Ok (Absent looked)) = 2 ∷ 0 ∷ 0 ∷ looked ∷ 0 ∷ []
+search_report (Ok (Spent place looked)) = 3 ∷ place ∷ 0 ∷ looked ∷ 0 ∷ []
+search_report (Err p) = []
 
 -- A search that was answered so: its number, and its report if it was accepted.
-pub record Reported (searched : Searched) (before : List ℕ) (answer : ℕ) (after : List ℕ) : Type 0 where
+pub record Reported (searched : SearchAnswer) (before : List ℕ) (answer : ℕ) (after : List ℕ) : Type 0 where
   pub coded : answer ≡ searched_number searched
   pub lent : Lent (searched_number searched) (search_report searched) before after
 
 -- The search: as the answer that its outcome permits is reported.
 pub record SearchCall (tolerance : ℕ) (stream : List ℕ) (start budget : ℕ) (before : List ℕ) (answer : ℕ) (after : List ℕ) : Type 0 where
-  pub searched : Searched
+  pub searched : SearchAnswer
   pub outcome : SearchOutcome tolerance stream start budget searched
   pub reported : Reported searched before answer after
 
@@ -168,24 +161,25 @@ abbrev pub coder_octets : State → List ℕ
 coder_octets state = state.register ∷ state.place ∷ state.holds ∷ state.held ∷ []
 
 -- A count of symbols that is put in place of the one that was lent, by the number of the answer that it came with.
-pub record CountPut (answered : Convolved) (counted answer count : ℕ) : Type 0 where
+pub record CountPut (answered : coder.Convolved) (counted answer count : ℕ) : Type 0 where
   pub coded : answer ≡ coder.convolved_number answered
   pub lent : Lent (coder.convolved_number answered) (coder.convolved_count answered) counted count
 
--- So with the state that came with them.
-pub record RanPut (ran : Ran) (octets : List ℕ) (counted answer : ℕ) (octets' : List ℕ) (count : ℕ) : Type 0 where
-  pub reported : CountPut ran.answer counted answer count
-  pub held : Lent (coder.convolved_number ran.answer) (coder_octets ran.state) octets octets'
+-- So with the state that came with it.
+pub record RanPut (answered : coder.Convolved) (next : State) (octets : List ℕ) (counted answer : ℕ) (octets' : List ℕ) (count : ℕ) : Type 0 where
+  pub reported : CountPut answered counted answer count
+  pub held : Lent (coder.convolved_number answered) (coder_octets next) octets octets'
 
 -- Convolve: an answer, a state and a buffer that the outcome permits, the state and the number of symbols put in place.
 pub record ConvolveCall (rate : ℕ) (octets input before : List ℕ) (counted answer : ℕ) (octets' after : List ℕ) (count : ℕ) : Type 0 where
-  pub ran : Ran
-  pub outcome : coder.ConvolveOutcome rate (coder_of octets) input before ran after
-  pub put : RanPut ran octets counted answer octets' count
+  pub convolved : coder.Convolved
+  pub next : State
+  pub outcome : coder.ConvolveOutcome rate (coder_of octets) input before convolved next after
+  pub put : RanPut convolved next octets counted answer octets' count
 
 -- Its close: an answer and a buffer that the outcome permits, and the number of symbols put in place; the state is read only.
 pub record ConvolveCloseCall (rate : ℕ) (octets before : List ℕ) (counted answer : ℕ) (after : List ℕ) (count : ℕ) : Type 0 where
-  pub convolved : Convolved
+  pub convolved : coder.Convolved
   pub outcome : coder.CloseOutcome rate (coder_of octets) before convolved after
   pub put : CountPut convolved counted answer count
 

@@ -2,7 +2,9 @@
 ghost use Rattle.std.specs.Prelude.{◌≡◌};
 ghost use Rattle.ironsimmer.specs.Exported.{coder_of, CountPut, RanPut};
 
-use convolution::{Convolved, Ran, State};
+use crate::codes::code_of;
+use convolution::State;
+use refusals::Parameter;
 
 pub(crate) fn state_of(octets: &[u8; 4]) -> State
     ensures { result ≡ coder_of octets.now }
@@ -16,27 +18,29 @@ pub(crate) fn state_of(octets: &[u8; 4]) -> State
 }
 
 // The count of an accepted call; or the refusal's number.
-pub(crate) fn put_count(answer: Convolved, count: &mut u32) -> u64
+pub(crate) fn put_count(answer: Result<u32, Parameter>, count: &mut u32) -> u64
     ensures { CountPut answer count.old result count.new }
 {
     match answer {
-        Convolved::Done(number) => {
+        Ok(number) => {
             *count = number;
             0
         }
-        Convolved::Refused(parameter) => refusals::parameter_number(parameter),
+        Err(parameter) => code_of(parameter),
     }
 }
 
 // So with the state that comes with it.
-pub(crate) fn put(ran: Ran, octets: &mut [u8; 4], count: &mut u32) -> u64
-    ensures { RanPut ran octets.old count.old result octets.new count.new }
+pub(crate) fn put(
+    answer: Result<u32, Parameter>,
+    next: State,
+    octets: &mut [u8; 4],
+    count: &mut u32,
+) -> u64
+    ensures { RanPut answer next octets.old count.old result octets.new count.new }
 {
-    let answer = ran.answer;
-    let number = put_count(answer, count);
-    if number == 0 {
-        let state = ran.state;
-        *octets = [state.register, state.place, state.holds, state.held];
+    if answer.is_ok() {
+        *octets = [next.register, next.place, next.holds, next.held];
     }
-    number
+    put_count(answer, count)
 }

@@ -10,11 +10,8 @@ mod reports;
 ghost use Rattle.randomiser.specs.Outcome.{NextOutcome};
 ghost use Rattle.ironsimmer.specs.Exported.{EncodeCall, PortionCall, CloseCall, DecodeCall, SalvageCall, RandomiseCall, MarkerCall, SearchCall, ConvolveCall, ConvolveCloseCall, LikeliestCall, TransmitCall, ReceiveCall};
 
-use chain::Received;
-use marker::Tested;
-use reed_solomon::Decoded;
-use refusals::Verdict;
-use viterbi::Sought;
+use codes::code_of;
+use refusals::Code;
 
 #[unsafe(no_mangle)]
 pub extern "C" fn ironsimmer_encode(
@@ -26,7 +23,12 @@ pub extern "C" fn ironsimmer_encode(
 ) -> u64
     ensures { EncodeCall e depth fill frame.now block.old result block.new }
 {
-    refusals::verdict_number(encoding::encode(e, depth, fill, frame, block))
+    let code = Code {
+        strength: e,
+        depth,
+        fill,
+    };
+    refusals::verdict_number(encoding::encode(code, frame, block))
 }
 
 #[unsafe(no_mangle)]
@@ -41,12 +43,14 @@ pub extern "C" fn ironsimmer_encode_portion(
 ) -> u64
     ensures { PortionCall e depth fill progress.old rows.old portion.now written.old result progress.new rows.new written.new }
 {
-    let state = portions::state_of(progress, rows);
-    portions::put(
-        frame_portions::portion(e, depth, fill, state, portion, written),
-        progress,
-        rows,
-    )
+    let code = Code {
+        strength: e,
+        depth,
+        fill,
+    };
+    let mut state = portions::state_of(progress, rows);
+    let verdict = state.portion(code, portion, written);
+    portions::put(verdict, state, progress, rows)
 }
 
 #[unsafe(no_mangle)]
@@ -60,12 +64,14 @@ pub extern "C" fn ironsimmer_encode_close(
 ) -> u64
     ensures { CloseCall e depth fill progress.old rows.old checks.old result progress.new rows.new checks.new }
 {
-    let state = portions::state_of(progress, rows);
-    portions::put(
-        frame_portions::close(e, depth, fill, state, checks),
-        progress,
-        rows,
-    )
+    let code = Code {
+        strength: e,
+        depth,
+        fill,
+    };
+    let mut state = portions::state_of(progress, rows);
+    let verdict = state.close(code, checks);
+    portions::put(verdict, state, progress, rows)
 }
 
 #[unsafe(no_mangle)]
@@ -80,14 +86,18 @@ pub extern "C" fn ironsimmer_decode(
 ) -> u64
     ensures { DecodeCall e depth fill s block.now frame.old counts.old result frame.new counts.new }
 {
-    let decoding = reed_solomon::decode(e, depth, fill, s, block, frame);
-    let answer = decoding.answer;
-    if let Decoded::Refused(refusal) = answer {
-        return codes::word_code(refusal);
+    let code = Code {
+        strength: e,
+        depth,
+        fill,
+    };
+    match reed_solomon::decode(code, s, block, frame) {
+        Ok(decoding) => {
+            *counts = reports::report_of(&decoding.counts, decoding.total);
+            0
+        }
+        Err(refusal) => code_of(refusal),
     }
-    let corrected = decoding.counts;
-    *counts = reports::report_of(corrected, decoding.total);
-    0
 }
 
 #[unsafe(no_mangle)]
@@ -103,15 +113,18 @@ pub extern "C" fn ironsimmer_salvage(
 ) -> u64
     ensures { SalvageCall e depth fill s block.now frame.old list.old words.old result frame.new list.new words.new }
 {
-    let salvaged = reed_solomon::salvage(e, depth, fill, s, block, frame, list);
-    let answer = salvaged.answer;
-    if let Verdict::Refused(parameter) = answer {
-        return refusals::parameter_number(parameter);
+    let code = Code {
+        strength: e,
+        depth,
+        fill,
+    };
+    match reed_solomon::salvage(code, s, block, frame, list) {
+        Ok(report) => {
+            *words = reports::salvage_of(&report.marks, &report.counts, report.entries);
+            0
+        }
+        Err(parameter) => code_of(parameter),
     }
-    let marks = salvaged.marks;
-    let counts = salvaged.counts;
-    *words = reports::salvage_of(marks, counts, salvaged.entries);
-    0
 }
 
 #[unsafe(no_mangle)]
@@ -133,11 +146,11 @@ pub extern "C" fn ironsimmer_marker(tolerance: u32, octets: &[u8], found: &mut [
     ensures { MarkerCall tolerance octets.now found.old result found.new }
 {
     match marker::test(tolerance, octets) {
-        Tested::Accepted(form, wrong) => {
-            *found = [codes::form_number(form), wrong];
+        Ok(near) => {
+            *found = [codes::form_number(near.form), near.wrong];
             0
         }
-        Tested::Refused(refusal) => codes::marker_code(refusal),
+        Err(refusal) => code_of(refusal),
     }
 }
 
@@ -164,12 +177,9 @@ pub extern "C" fn ironsimmer_convolve(
 ) -> u64
     ensures { ConvolveCall rate state.old «data».now symbols.old count.old result state.new symbols.new count.new }
 {
-    let lent = coder::state_of(state);
-    coder::put(
-        convolution::convolve(rate, lent, data, symbols),
-        state,
-        count,
-    )
+    let mut lent = coder::state_of(state);
+    let answer = convolution::convolve(rate, &mut lent, data, symbols);
+    coder::put(answer, lent, state, count)
 }
 
 #[unsafe(no_mangle)]
@@ -195,14 +205,11 @@ pub extern "C" fn ironsimmer_likeliest(
     ensures { LikeliestCall register symbols.now «data».old found.old result «data».new found.new }
 {
     match viterbi::likeliest(register, symbols, data) {
-        Sought::Found {
-            places,
-            register: reached,
-        } => {
-            *found = [places, reached];
+        Ok(likeliest) => {
+            *found = [likeliest.places, likeliest.register];
             0
         }
-        Sought::Refused(parameter) => refusals::parameter_number(parameter),
+        Err(parameter) => code_of(parameter),
     }
 }
 
@@ -217,7 +224,12 @@ pub extern "C" fn ironsimmer_transmit(
 ) -> u64
     ensures { TransmitCall e depth fill randomised frame.now marked.old result marked.new }
 {
-    refusals::verdict_number(chain::transmit(e, depth, fill, randomised != 0, frame, marked))
+    let code = Code {
+        strength: e,
+        depth,
+        fill,
+    };
+    refusals::verdict_number(chain::transmit(code, randomised != 0, frame, marked))
 }
 
 #[unsafe(no_mangle)]
@@ -234,13 +246,17 @@ pub extern "C" fn ironsimmer_receive(
 ) -> u64
     ensures { ReceiveCall e depth fill s tolerance randomised marked.now frame.old counts.old result frame.new counts.new }
 {
-    let reception = chain::receive(e, depth, fill, s, tolerance, randomised != 0, marked, frame);
-    let answer = reception.answer;
-    if let Received::Refused(stage) = answer {
-        return codes::stage_code(stage);
+    let code = Code {
+        strength: e,
+        depth,
+        fill,
+    };
+    match chain::receive(code, s, tolerance, randomised != 0, marked, frame) {
+        Ok(reception) => {
+            let inverted = u32::from(reception.inverted);
+            *counts = reports::reception_of(&reception.counts, reception.total, inverted);
+            0
+        }
+        Err(stage) => code_of(stage),
     }
-    let corrected = reception.counts;
-    let inverted = codes::truth_number(reception.inverted);
-    *counts = reports::reception_of(corrected, reception.total, inverted);
-    0
 }

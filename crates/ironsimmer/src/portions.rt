@@ -2,9 +2,8 @@
 ghost use Rattle.std.specs.Prelude.{◌≡◌};
 ghost use Rattle.ironsimmer.specs.Exported.{state_of, StatePut};
 
-use crate::codes::truth_number;
-use frame_portions::{Portioned, Progress};
-use refusals::Verdict;
+use frame_portions::Progress;
+use refusals::Parameter;
 
 pub(crate) fn state_of(progress: &[u32; 2], rows: &[[u8; 32]; 8]) -> Progress
     ensures { result ≡ state_of progress.now rows.now }
@@ -12,22 +11,23 @@ pub(crate) fn state_of(progress: &[u32; 2], rows: &[[u8; 32]; 8]) -> Progress
     Progress {
         place: progress[0],
         closed: progress[1] != 0,
-        rows: frame_portions::held_rows(*rows),
+        rows: *rows,
     }
 }
 
 // An accepted call's state; or the refusal's number.
-pub(crate) fn put(portioned: Portioned, progress: &mut [u32; 2], rows: &mut [[u8; 32]; 8]) -> u64
-    ensures { StatePut portioned.verdict portioned.state progress.old rows.old result progress.new rows.new }
+pub(crate) fn put(
+    verdict: Result<(), Parameter>,
+    state: Progress,
+    progress: &mut [u32; 2],
+    rows: &mut [[u8; 32]; 8],
+) -> u64
+    ensures { StatePut verdict state progress.old rows.old result progress.new rows.new }
 {
-    let verdict = portioned.verdict;
-    if let Verdict::Refused(parameter) = verdict {
-        return refusals::parameter_number(parameter);
+    if verdict.is_ok() {
+        *progress = [state.place, u32::from(state.closed)];
+        let held = state.rows;
+        *rows = held;
     }
-    let state = portioned.state;
-    let held = state.rows;
-    *rows = frame_portions::octet_rows(held);
-    let closed = truth_number(state.closed);
-    *progress = [state.place, closed];
-    0
+    refusals::verdict_number(verdict)
 }

@@ -1,95 +1,65 @@
 // What an accepted call reports, in the arrays that C lends. A whole array is put in place at once: a refused call then cannot have written a part.
-ghost use Rattle.std.specs.Prelude.{◌≡◌, [], ◌∷◌, ◌++◌, length};
+ghost use Rattle.std.specs.Prelude.{◌≡◌, [], ◌∷◌, ◌++◌, ◌+◌, ◌<◌, length, get_or};
 ghost use Rattle.ironsimmer.specs.Exported.{salvage_listed, Reported};
 
-use crate::codes::form_number;
+use crate::codes::{code_of, form_number};
 use marker::Searched;
+use refusals::Parameter;
+use std::array;
+
+fn listed_at(octets: &[u8; 8], rest: &[u32], at: usize) -> u32
+    requires { at < 8 + length rest.now }
+    ensures { result ≡ get_or (octets.now ++ rest.now) at 0 }
+{
+    if at < 8 { u32::from(octets[at]) } else { rest[at - 8] }
+}
+
+// The octets of eight words as numbers, then the rest.
+fn listed<const N: usize>(octets: &[u8; 8], rest: &[u32]) -> [u32; N]
+    requires { N ≡ 8 + length rest.now }
+    ensures { result ≡ octets.now ++ rest.now }
+{
+    array::from_fn(|at| listed_at(octets, rest, at))
+}
 
 // The counts of eight words, then the total.
-pub(crate) fn report_of(counts: [u8; 8], total: u32) -> [u32; 9]
-    requires { length counts ≡ 8 }
-    ensures { result ≡ counts ++ (total ∷ []) }
+pub(crate) fn report_of(counts: &[u8; 8], total: u32) -> [u32; 9]
+    ensures { result ≡ counts.now ++ (total ∷ []) }
 {
-    [
-        counts[0] as u32,
-        counts[1] as u32,
-        counts[2] as u32,
-        counts[3] as u32,
-        counts[4] as u32,
-        counts[5] as u32,
-        counts[6] as u32,
-        counts[7] as u32,
-        total,
-    ]
+    listed(counts, &[total])
 }
 
 // The counts of eight words, the total, then whether the block was inverted.
-pub(crate) fn reception_of(counts: [u8; 8], total: u32, inverted: u32) -> [u32; 10]
-    requires { length counts ≡ 8 }
-    ensures { result ≡ counts ++ (total ∷ inverted ∷ []) }
+pub(crate) fn reception_of(counts: &[u8; 8], total: u32, inverted: u32) -> [u32; 10]
+    ensures { result ≡ counts.now ++ (total ∷ inverted ∷ []) }
 {
-    [
-        counts[0] as u32,
-        counts[1] as u32,
-        counts[2] as u32,
-        counts[3] as u32,
-        counts[4] as u32,
-        counts[5] as u32,
-        counts[6] as u32,
-        counts[7] as u32,
-        total,
-        inverted,
-    ]
+    listed(counts, &[total, inverted])
 }
 
 // The marks of eight words, their counts, then the number of entries in the list.
-pub(crate) fn salvage_of(marks: [u8; 8], counts: [u8; 8], entries: u32) -> [u32; 17]
-    requires { (length marks ≡ 8) × (length counts ≡ 8) }
-    ensures { result ≡ salvage_listed marks counts entries }
+pub(crate) fn salvage_of(marks: &[u8; 8], counts: &[u8; 8], entries: u32) -> [u32; 17]
+    ensures { result ≡ salvage_listed marks.now counts.now entries }
 {
-    [
-        marks[0] as u32,
-        marks[1] as u32,
-        marks[2] as u32,
-        marks[3] as u32,
-        marks[4] as u32,
-        marks[5] as u32,
-        marks[6] as u32,
-        marks[7] as u32,
-        counts[0] as u32,
-        counts[1] as u32,
-        counts[2] as u32,
-        counts[3] as u32,
-        counts[4] as u32,
-        counts[5] as u32,
-        counts[6] as u32,
-        counts[7] as u32,
-        entries,
-    ]
+    listed(marks, &report_of(counts, entries))
 }
 
 // The kind of an answer, 1 found, 2 absent, 3 spent, with its place, wrong bits, places looked at and form; or the refusal's number.
-pub(crate) fn put_search(answer: Searched, found: &mut [u64; 5]) -> u64
+pub(crate) fn put_search(answer: Result<Searched, Parameter>, found: &mut [u64; 5]) -> u64
     ensures { Reported answer found.old result found.new }
 {
-    match answer {
+    let seen = match answer {
+        Ok(seen) => seen,
+        Err(parameter) => return code_of(parameter),
+    };
+    *found = match seen {
         Searched::Found {
             place,
             form,
             wrong,
             looked,
-        } => {
-            *found = [1, place, wrong as u64, looked, form_number(form) as u64];
-            0
-        }
-        Searched::Absent { looked } => {
-            *found = [2, 0, 0, looked, 0];
-            0
-        }
-        Searched::Spent { place, looked } => {
-            *found = [3, place, 0, looked, 0];
-            0
-        }
-        Searched::Refused(parameter) => refusals::parameter_number(parameter),
-    }
+        } => [1, place, u64::from(wrong), looked, u64::from(form_number(form))],
+        Searched::Absent { looked } => [2, 0, 0, looked, 0],
+        Searched::Spent { place, looked } => [3, place, 0, looked, 0],
+    };
+    0
 }
