@@ -11,7 +11,11 @@ fn listed_at(octets: &[u8; 8], rest: &[u32], at: usize) -> u32
     requires { at < 8 + length rest.now }
     ensures { result ≡ get_or (octets.now ++ rest.now) at 0 }
 {
-    if at < 8 { u32::from(octets[at]) } else { rest[at - 8] }
+    if at < 8 {
+        u32::from(octets[at])
+    } else {
+        rest[at - 8]
+    }
 }
 
 // The octets of eight words as numbers, then the rest.
@@ -57,7 +61,13 @@ pub(crate) fn put_search(answer: Result<Searched, Parameter>, found: &mut [u64; 
             form,
             wrong,
             looked,
-        } => [1, place, u64::from(wrong), looked, u64::from(form_number(form))],
+        } => [
+            1,
+            place,
+            u64::from(wrong),
+            looked,
+            u64::from(form_number(form)),
+        ],
         Searched::Absent { looked } => [2, 0, 0, looked, 0],
         Searched::Spent { place, looked } => [3, place, 0, looked, 0],
     };

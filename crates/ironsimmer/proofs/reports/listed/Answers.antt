@@ -2,7 +2,7 @@
 use Rattle.std.proofs.Common.{rules}
 use mathlib.Core.List.{◌++◌}
 use native.Mathlib.Omega.{arith}
-use lib.ListN.{length, get_or, length-append}
+use lib.ListN.{get_or, length-append}
 use lib.Seq.{ext_get_or}
 use Rattle.octets.proofs.Made.{made_at}
 use Rattle.ironsimmer.proofs.reports.listed.Goals as goal
