@@ -11,6 +11,7 @@ pub mod RowTurns
 pub mod Tables
 pub mod Thirds
 pub mod MarkedProducts
+pub mod Fronts
 pub mod MarksPassed
 pub mod RootsFound
 pub mod InversesListed

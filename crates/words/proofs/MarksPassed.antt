@@ -4,16 +4,16 @@ use mathlib.Core.Logic.{◌≢◌, ◌⊎◌, inl, inr}
 use mathlib.Core.List.{List, [], ◌∷◌, ◌++◌}
 use Prim.Native.Nat.{ℕ, suc, ◌+◌, ◌-◌, ◌≤◌, ◌<◌}
 use native.Mathlib.Omega.{arith}
-use lib.ListN.{length, get_or, take, drop, length-append, length-drop}
-use lib.Seq.{drop-cons, take_all, take_at, take-take, get_or-take, get_or-append_seam}
+use lib.ListN.{length, get_or, drop, length-drop}
+use lib.Seq.{drop-cons}
 use Rattle.codewords.specs.Locators.{X}
 use Rattle.words.specs.Working.{Filled, by_root_at, HoldsProduct}
+use Rattle.words.proofs.Fronts.{Front, front_starts, front_size, front_last, front_turn}
 use Rattle.words.proofs.MarkedProducts.{product_starts, product_marked, product_plain}
 
 -- `rest` are the marks that are left, `zs` what is left of the table, and `out` the product for the marks passed
 pub record Passed (table start marks rest zs out : List ℕ) : Type 0 where
-  pub few : length rest ≤ length marks
-  pub front : rest ≡ take (length rest) marks
+  pub front : Front marks rest
   pub behind : zs ≡ drop (length marks - length rest) table
   pub held : HoldsProduct start (drop (length rest) marks) out
 
@@ -21,8 +21,7 @@ pub passed_starts : (table start marks : List ℕ) → length start ≡ 33 → P
 passed_starts table start marks l =
     let none : length marks - length marks ≡ 0 = omega arith in
     record {
-      few = omega arith;
-      front = sym (take_all (length marks) marks (omega arith));
+      front = front_starts marks;
       behind = rw none refl;
       held = subst (λ (k : ℕ). HoldsProduct start (drop k marks) start) (omega arith) (product_starts start marks l);
     }
@@ -30,43 +29,41 @@ passed_starts table start marks l =
 module _ (table start marks rest zs out rest' zs' : List ℕ) (mark z : ℕ) (T : Filled X 255 table 255) (short : length marks ≤ 255)
     (last : rest ≡ rest' ++ (mark ∷ [])) (next : zs ≡ z ∷ zs') (P : Passed table start marks rest zs out) where
   size : length rest ≡ suc (length rest')
-  size = omega (arith, ap length last, length-append rest' (mark ∷ []))
+  size = front_size marks rest rest' mark last P.front
 
   power : ℕ
   power = length marks - length rest
 
   listed : z ∷ zs' ≡ get_or table power 0 ∷ drop (suc power) table
   unfolding power
-  listed = sym next ∙ P.behind ∙ drop-cons table (length marks - length rest) 0 (omega (arith, T.size, P.few, size))
+  listed = sym next ∙ P.behind ∙ drop-cons table (length marks - length rest) 0 (omega (arith, T.size, P.front.few, size))
 
   locator_is : z ≡ X power
   unfolding power
-  locator_is = let one : z ≡ get_or table (length marks - length rest) 0 = cc listed in one ∙ T.each (length marks - length rest) (omega (arith, P.few, size))
+  locator_is = let one : z ≡ get_or table (length marks - length rest) 0 = cc listed in one ∙ T.each (length marks - length rest) (omega (arith, P.front.few, size))
 
   mark_is : get_or marks (length marks - 1 - power) 0 ≡ mark
   unfolding power
   mark_is =
-      ap (λ (k : ℕ). get_or marks k 0) (omega (arith, P.few, size)) ∙ sym (get_or-take (length rest) marks (length rest') 0 (omega (arith, size, ap length P.front)))
-      ∙ ap (λ (t : List ℕ). get_or t (length rest') 0) (sym P.front ∙ last) ∙ get_or-append_seam rest' mark [] 0
+      ap (λ (k : ℕ). get_or marks k 0) (omega (arith, P.front.few, size)) ∙ front_last marks rest rest' mark last P.front
 
   held_before : HoldsProduct start (drop (length marks - power) marks) out
   unfolding power
-  held_before = subst (λ (k : ℕ). HoldsProduct start (drop k marks) out) (omega (arith, P.few)) P.held
+  held_before = subst (λ (k : ℕ). HoldsProduct start (drop k marks) out) (omega (arith, P.front.few)) P.held
 
   within : power < length marks
   unfolding power
-  within = omega (arith, P.few, size)
+  within = omega (arith, P.front.few, size)
 
   passed_by : (out' : List ℕ) → HoldsProduct start (drop (length marks - (power + 1)) marks) out' → Passed table start marks rest' zs' out'
   unfolding power
   passed_by out' H =
-      let left : suc (length marks - length rest) ≡ length marks - length rest' = omega (arith, P.few, size) in
+      let left : suc (length marks - length rest) ≡ length marks - length rest' = omega (arith, P.front.few, size) in
       let others : zs' ≡ drop (suc (length marks - length rest)) table = cc listed in
       record {
-        few = omega (arith, P.few, size);
-        front = sym (take_at rest' (mark ∷ []) (length rest') refl) ∙ ap (take (length rest')) (sym last ∙ P.front) ∙ take-take (length rest') (length rest) marks (omega (arith, size));
+        front = front_turn marks rest rest' mark last P.front;
         behind = others ∙ ap (λ (k : ℕ). drop k table) left;
-        held = subst (λ (k : ℕ). HoldsProduct start (drop k marks) out') (omega (arith, P.few, size)) H;
+        held = subst (λ (k : ℕ). HoldsProduct start (drop k marks) out') (omega (arith, P.front.few, size)) H;
       }
 
   pub passed_marked : mark ≢ 0 → (out' : List ℕ) → Filled (by_root_at z out) 33 out' 33 → Passed table start marks rest' zs' out'
@@ -77,5 +74,5 @@ module _ (table start marks rest zs out rest' zs' : List ℕ) (mark z : ℕ) (T 
 
 pub passed_ends : (table start marks rest zs out : List ℕ) → length table ≡ 255 → length marks ≤ 255 → Passed table start marks rest zs out → length rest ≡ 0 ⊎ length zs ≡ 0 → HoldsProduct start marks out
 passed_ends table start marks rest zs out size short P e =
-    let all : length rest ≡ 0 = elim e [ inl f ↦ f | inr f ↦ omega (arith, f, P.few, ap length P.behind, length-drop (length marks - length rest) table) ] in
+    let all : length rest ≡ 0 = elim e [ inl f ↦ f | inr f ↦ omega (arith, f, P.front.few, ap length P.behind, length-drop (length marks - length rest) table) ] in
     rw all at P.held

@@ -66,8 +66,8 @@ fn divided(s: &[u8], lambda: &[u8], locators: &[u8; 16]) -> Division
         below: [0; 16],
         rest: [0; 16],
     };
-    for j in (0..lambda.len()).rev() {
-        division = with_coefficient(division, locators, term(s, j), lambda[j]);
+    for (j, coefficient) in lambda.iter().enumerate().rev() {
+        division = with_coefficient(division, locators, term(s, j), *coefficient);
     }
     division
 }

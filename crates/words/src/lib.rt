@@ -24,13 +24,15 @@ use line::on_line;
 use marks::Marks;
 use syndromes::syndromes_of;
 
-// How many symbols differ from a good codeword, and what to add to each symbol sent to have it.
+// How many symbols differ from a good codeword, and what to add to each symbol sent to have it: an octet for each of 255 places, of which the
+// count is not the length.
 #[derive(Clone, Copy, Debug, PartialEq, Eq)]
 pub struct WordErrors {
     pub count: u32,
     pub errors: [u8; 255],
 }
 
+// The three parameters are those of `find_errors`, which stay: a struct for two private functions would be no plainer.
 fn legal_word(e: u32, s: u32, sent: &[u8]) -> bool
     ensures { Tells result (LegalWord e s sent.now) }
 {

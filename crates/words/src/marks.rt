@@ -28,7 +28,7 @@ fn changed(s: &[u8], gamma: &[u8]) -> [u8; 32]
     out
 }
 
-// The length and the polynomial of a register.
+// The length and the polynomial of a register: an array and a number, since the library has no heap.
 #[derive(Clone, Copy)]
 pub(crate) struct Locator {
     pub(crate) len: usize,

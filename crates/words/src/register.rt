@@ -5,14 +5,15 @@ ghost use Rattle.words.specs.Working.{Filled, terms, behind_zeros, PutBehind, bl
 
 use std::array;
 
-// Its length and polynomial.
+// Its length and polynomial: an array and a number, since the library has no heap.
 #[derive(Clone, Copy)]
 pub(crate) struct Register {
     pub(crate) len: usize,
     pub(crate) taps: [u8; 32],
 }
 
-// The terms, and zeros behind them.
+// The terms, and zeros behind them. That they are at most 32 is asked here and below, not held by a type: they are parts of several arrays, and a
+// type for such a part would only be made and taken apart again.
 fn padded(s: &[u8]) -> [u8; 32]
     requires { length s.now ≤ 32 }
     ensures { Filled (terms s.now) 32 result 32 }

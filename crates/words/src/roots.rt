@@ -76,6 +76,7 @@ impl Parted<'_> {
         let mut first: [u8; 16] = [0; 16];
         let mut second: [u8; 16] = [0; 16];
         let mut third: [u8; 16] = [0; 16];
+        // By a number: chunks of three would be read at 0, 1 and 2, which is no plainer.
         for j in (0..self.parts).rev() {
             first = with_symbol(&first, points, self.lambda[3 * j]);
             second = with_symbol(&second, points, self.lambda[3 * j + 1]);
@@ -105,6 +106,7 @@ impl Parted<'_> {
         ensures { Filled (values_from self.now.lambda.now 0) 288 result 266 }
     {
         let mut values = [0u8; 288];
+        // A number of rows, which index nothing: a loop by steps of 16 would need a measure to be proved.
         for row in 0usize..6 {
             let at = 16 * row;
             let found = self.values_at(at);

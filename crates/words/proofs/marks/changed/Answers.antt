@@ -1,20 +1,10 @@
 -- `changed` pairs the marks' polynomial with the syndromes from each one on.
-use Rattle.std.proofs.Common.{arith, ◌≡◌, refl, sym, ap, ◌∙◌, ◌+◌, ◌-◌, length, take, drop, ℕ}
+use Rattle.std.proofs.Common.{arith, ◌≡◌, sym, ap, ◌∙◌, ◌-◌, length, take, drop, ℕ}
 use lib.ListN.{length-drop}
 use lib.Seq.{drop-drop}
-use Rattle.words.proofs.Arrays.{filled_starts, filled_turn}
+use Rattle.words.proofs.Arrays.{filled_turn}
 use Rattle.words.proofs.Coefficients.{window_of}
 use Rattle.words.proofs.marks.changed.Goals as goal
-
-pub loop-i-init : goal.loop-i-init
-loop-i-init c =
-    let first : c.into_iter-i-iterator.result.count ≡ 0 = cc in
-    record {
-      wide = cc;
-      left = rw first cc;
-      room = omega (arith, first);
-      filled = rw first (filled_starts _ 32 _ refl);
-    }
 
 pub loop-i-preserved : goal.loop-i-preserved
 loop-i-preserved c =
@@ -30,11 +20,3 @@ loop-i-preserved c =
       filled = rw (e.2, e.1) (filled_turn _ 32 _ now.count _ held.filled (omega (arith, e.0.1.0, behind, held.wide, c.requires.0, c.requires.1))
           (window_of c.args.s.now c.args.gamma.now c.in-Some.window.now now.count _ (omega (arith, e.0.1.0, held.wide, length-drop now.count c.args.s.now, behind)) window c.pair.ensures));
     }
-
-pub returns : goal.returns
-returns c =
-    let now = c.loop-i.i-iterator in
-    let held = c.loop-i.invariant in
-    let behind : length now.iter.rest.now ≡ length c.args.s.now - now.count = ap length held.left ∙ length-drop now.count c.args.s.now in
-    let all : now.count ≡ length c.args.s.now + 1 - length c.args.gamma.now = omega (arith, c.in-None.ensures.steps.0.1.0, behind, held.wide, held.room) in
-    rw all at held.filled

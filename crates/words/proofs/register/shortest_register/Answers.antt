@@ -1,7 +1,6 @@
 -- `shortest_register` takes one term after another: by the gap there the register is kept, changed at the same length, or made longer.
-use mathlib.Core.Path.{◌≡◌, refl}
+use mathlib.Core.Path.{refl}
 use native.Mathlib.Omega.{arith}
-use lib.ListN.{length}
 use Rattle.words.proofs.RegisterTurns.{turned-start, holds_len, turned_as, turn_keep, turn_same, turn_grow}
 use Rattle.words.proofs.register.shortest_register.Goals as goal
 use Rattle.words.proofs.register.shortest_register.Goals.{then-gap-eq0, else-gap-eq0+then-n-len, else-gap-eq0+else-n-len}
@@ -14,20 +13,8 @@ loop-n-init c = (
       c.behind_zeros-kept.ensures c.behind_zeros-kept_gaps.ensures,
 )
 
-pub overflow_sub-from : goal.overflow_sub-from
-overflow_sub-from c = omega (arith, c.loop-n.invariant.2.enough)
-
-pub blended-more-requires : goal.blended-more-requires
-blended-more-requires c = omega (arith, c.loop-n.invariant.2.earlier.low)
-
-pub blended-more_gaps-requires : goal.blended-more_gaps-requires
-blended-more_gaps-requires c = omega (arith, c.loop-n.invariant.2.earlier.low)
-
 pub overflow_add-len : goal.overflow_add-len
 overflow_add-len c = omega (arith, holds_len _ _ _ _ c.loop-n.invariant.2.holds)
-
-pub overflow_sub-from-then-n-len : goal.overflow_sub-from-then-n-len
-overflow_sub-from-then-n-len c = omega (arith, c.loop-n.invariant.2.enough)
 
 pub loop-n-preserved : goal.loop-n-preserved
 loop-n-preserved c = (
@@ -45,8 +32,3 @@ loop-n-preserved c = (
         w.taps-is w.gaps-is w.kept-is w.kept_gaps-is (omega (arith, w.len-is)) w.from-is w.last-is
   ],
 )
-
-pub returns : goal.returns
-returns c =
-    let all : c.loop-n.n ≡ length c.args.s.now = omega arith in
-    rw all at c.loop-n.invariant.2.holds

@@ -17,8 +17,3 @@ loop-c-preserved c =
       placed_turn _ _ _ _ _ c.requires.2 _ (omega arith) c.row_from-row.ensures _ _ _ _ c.loop-c.c (omega arith) c.loop-c.invariant.1 c.errors_at-errors.ensures (omega arith) _
           (omega (arith, here, c.loop-c.invariant.0 c.loop-c.c (omega arith))),
     )
-
-pub returns : goal.returns
-returns c =
-    let all : c.loop-c.c ≡ c.args.some = omega (arith, length-take-le c.args.some c.row_from-row.result (omega (arith, c.row_from-row.ensures.size))) in
-    rw all at c.loop-c.invariant.1

@@ -1,8 +1,8 @@
 -- `times_marks` has nothing to do with no mark; else it walks from the last place to the first, with a factor for each mark passed.
-use Rattle.std.proofs.Common.{arith, ◌≡◌, inl, inr}
+use Rattle.std.proofs.Common.{arith, ◌≡◌}
 use Rattle.words.specs.declared.locators.TheConstants.{LOCATORS}
 use Rattle.words.proofs.MarkedProducts.{product_unmarked}
-use Rattle.words.proofs.MarksPassed.{passed_starts, passed_marked, passed_plain, passed_ends}
+use Rattle.words.proofs.MarksPassed.{passed_starts, passed_marked, passed_plain}
 use Rattle.words.proofs.Tables.{locators_listed}
 use Rattle.words.proofs.marks.Marks.times_marks.Goals as goal
 
@@ -22,6 +22,3 @@ loop-mark-preserved-then-mark-ne0 c =
 pub loop-mark-preserved : goal.loop-mark-preserved
 loop-mark-preserved c =
     passed_plain LOCATORS _ _ _ _ _ _ _ _ _ locators_listed (omega arith) c.in-Some.ensures.steps.0 c.in-Some.ensures.steps.1 c.loop-mark.invariant c.if-mark-ne0.false
-
-pub returns : goal.returns
-returns c = passed_ends LOCATORS _ _ _ _ _ locators_listed.size (omega arith) c.loop-mark.invariant (elim c.in-None.ensures.steps [ inl e ↦ inl e.1.0 | inr e ↦ inr e.1.0 ])

@@ -1,8 +1,5 @@
 -- `unmarked_locator` runs the register over the syndromes as they are, or, with marks, as the marked places changed them.
-use mathlib.Core.Path.{sym}
 use native.Mathlib.Omega.{arith}
-use lib.ListN.{length-take}
-use lib.Seq.{length-take-le}
 use Rattle.words.proofs.Arrays.{one_first}
 use Rattle.words.proofs.MarkedProducts.{holds_unmarked, holds_changed}
 use Rattle.words.proofs.marks.Marks.unmarked_locator.Goals as goal
@@ -11,18 +8,6 @@ pub returns-then-self-eq0 : goal.returns-then-self-eq0
 returns-then-self-eq0 c =
     holds_unmarked c.args.s.now c.args.self.now.marks.now (omega arith) (λ i. omega (arith, c.type_inv.s i)) _ _ _
     c.shortest_register-g.ensures c.polynomial.ensures
-
-pub slice_bounds-changed-end : goal.slice_bounds-changed-end
-slice_bounds-changed-end c = sym (length-take-le _ _ (omega (arith, c.times_marks-gamma.ensures.size)))
-
-pub changed-t-requires : goal.changed-t-requires
-changed-t-requires c = (omega arith, simp length-take (omega (arith, c.times_marks-gamma.ensures.size)), simp length-take (omega arith))
-
-pub slice_bounds-shortest_register-end : goal.slice_bounds-shortest_register-end
-slice_bounds-shortest_register-end c = sym (length-take-le _ _ (omega (arith, c.changed-t.ensures.size)))
-
-pub shortest_register-g-requires-2 : goal.shortest_register-g-requires-2
-shortest_register-g-requires-2 c = simp length-take (omega arith)
 
 pub returns : goal.returns
 returns c =

@@ -18,8 +18,3 @@ loop-power-preserved c =
       | then-value-eq0 w ↦ rw w.found-is (rw (w.put.ensures.count_is, w.put.ensures.powers_are) (roots_more _ _ _ _ now.invariant (sym value ∙ sym here ∙ w.if-value-eq0.true)))
       | else-value-eq0 w ↦ rw w.found-is (roots_none _ _ _ _ now.invariant (λ e. w.if-value-eq0.false (here ∙ value ∙ e)))
     ]
-
-pub returns : goal.returns
-returns c =
-    let whole : c.loop-power.power ≡ c.args.len = omega (arith, length-take-le c.args.len c.values_everywhere-values.result (omega (arith, c.values_everywhere-values.ensures.size))) in
-    rw whole at c.loop-power.invariant

@@ -1,12 +1,9 @@
 -- `values_everywhere` puts three rows of values in place in each turn, behind those of the turns before.
-use mathlib.Core.Path.{◌≡◌, refl}
+use mathlib.Core.Path.{◌≡◌}
 use Prim.Native.Nat.{◌*◌}
 use native.Mathlib.Omega.{arith}
-use Rattle.words.proofs.Thirds.{rows_start, rows_turn, rows_end}
+use Rattle.words.proofs.Thirds.{rows_turn, rows_end}
 use Rattle.words.proofs.roots.Parted.values_everywhere.Goals as goal
-
-pub loop-row-init : goal.loop-row-init
-loop-row-init c = rows_start _ _ refl
 
 pub loop-row-preserved : goal.loop-row-preserved
 loop-row-preserved c =
