@@ -7,8 +7,8 @@ ghost use Rattle.convolution.specs.GroupWorking.{Put};
 use crate::Flow;
 
 // The octet that stands above so many of the symbols.
-fn octet_above(symbols: u64, below: usize) -> u8
-    requires { below < 64 }
+fn octet_above(symbols: u32, below: usize) -> u8
+    requires { below < 32 }
     ensures { result ≡ symbols / 2 ^ below % 256 }
 {
     ((symbols >> below) % 256) as u8
@@ -22,11 +22,11 @@ pub(crate) fn write_ready(symbols: &mut [u8], at: usize, held: u32, holds: usize
     if holds < 8 {
         return;
     }
-    symbols[at] = octet_above(u64::from(held), holds - 8);
+    symbols[at] = octet_above(held, holds - 8);
     if holds < 16 {
         return;
     }
-    symbols[at + 1] = octet_above(u64::from(held), holds - 16);
+    symbols[at + 1] = octet_above(held, holds - 16);
 }
 
 // The lowest octets of a number, the first at `at`.
