@@ -10,6 +10,7 @@ use crate::patterns::Pattern;
 use crate::writing::{last_octet, top_bits};
 use crate::{Flow, Group, Progress, State};
 
+// No `From`, here and back: each asks something of what it takes.
 fn opened(state: &State) -> Flow
     requires { state.now.holds < 8 }
     ensures { Opened state.now result }
