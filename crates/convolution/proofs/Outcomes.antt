@@ -1,5 +1,5 @@
 -- How a call of `convolve` and a `close` come by their outcomes: from the verdict of the checks, and from what is done once they have passed.
-use mathlib.Core.Path.{◌≡◌, refl, sym, ap, ◌∙◌, subst}
+use mathlib.Core.Path.{◌≡◌, refl, sym, ap, ◌∙◌}
 use mathlib.Core.List.{List, [], ◌∷◌}
 use Prim.Native.Nat.{ℕ, ◌+◌, ◌/◌, ◌≤◌, ◌<◌}
 use native.Mathlib.Omega.{arith}
@@ -17,7 +17,7 @@ use Rattle.refusals.proofs.Legal.{LegalCoder, coder_numbers, accepted_coder}
 use Rattle.refusals.proofs.Verdicts.{parameter_nonzero}
 use Rattle.convolution.specs.declared.State.{State}
 use Rattle.convolution.specs.Coder.{low_bits, first_octet, packed}
-use Rattle.convolution.specs.Outcome.{convolved_number, convolved_count, held_of, ConvolveOutcome, CloseOutcome}
+use Rattle.convolution.specs.Outcome.{held_of, ConvolveOutcome, CloseOutcome}
 use Rattle.convolution.specs.Working.{Accepted}
 use Rattle.convolution.proofs.Bits.{low_length}
 use Rattle.convolution.proofs.Packing.{packed_short}

@@ -1,5 +1,5 @@
 -- The contracts settle both calls: two outcomes that one permits for the same inputs are equal, answer, state and lent octets.
-use mathlib.Core.Path.{◌≡◌, refl, sym, ap, ap₂, ◌∙◌}
+use mathlib.Core.Path.{◌≡◌, refl, sym, ap, ◌∙◌}
 use mathlib.Core.List.{List}
 use Prim.Native.Nat.{ℕ}
 use lib.ListN.{length}

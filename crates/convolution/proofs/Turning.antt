@@ -9,7 +9,7 @@ use native.Mathlib.Omega.{arith}
 use lib.Pow.{pow_pos, pow_mono, shr-shr, shr_lt}
 use Rattle.std.specs.Prelude.{slice_range}
 use lib.ListN.{length, get_or, take, drop, length-append, length-drop, take-append-drop, drop_of_length-le}
-use lib.Seq.{length-take-le, take-suc, get_or-drop, drop-drop}
+use lib.Seq.{length-take-le, take-suc, drop-drop}
 use Rattle.refusals.specs.Sizes.{period}
 use Rattle.convolution.specs.declared.Flow.{Flow}
 use Rattle.convolution.specs.declared.Group.{Group}

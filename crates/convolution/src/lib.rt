@@ -28,7 +28,8 @@ pub struct State {
 }
 
 // What it carries from bit to bit: the same, but the held symbols, up to 23 of them, with the newest lowest. Bits of `held` above
-// the `holds` lowest mean nothing.
+// the `holds` lowest mean nothing. That the place lies within the period (`Sound`) is of a state and a rate together, so it stays in the clauses: a
+// struct of both would be copied at each octet.
 #[derive(Clone, Copy)]
 struct Flow {
     register: u32,

@@ -67,7 +67,7 @@ fn to_period(place: usize, period: usize) -> usize
 }
 
 impl Pattern {
-    // At every other rate what its pattern names.
+    // At every other rate what its pattern names. A turn takes the bits up to the next that begins a period, so there is nothing to count or to go over.
     pub(crate) fn punctured(&self, state: Flow, first: u8, second: u8) -> Flow
         requires { (state.place < self.now.period) × (state.holds < 8) }
         ensures { Sent self.now.rate state first second result }

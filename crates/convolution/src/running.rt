@@ -10,9 +10,10 @@ use crate::patterns::Pattern;
 use crate::writing::{last_octet, top_bits};
 use crate::{Flow, Group, Progress, State};
 
-fn opened(state: State) -> Flow
-    requires { state.holds < 8 }
-    ensures { Opened state result }
+// No `From`, here and back: each asks something of what it takes.
+fn opened(state: &State) -> Flow
+    requires { state.now.holds < 8 }
+    ensures { Opened state.now result }
 {
     let holds = usize::from(state.holds);
     Flow {
@@ -77,7 +78,7 @@ pub(crate) fn run_on(rate: u32, state: &mut State, octets: &[u8], symbols: &mut 
     requires { FirstOf (convolve_order rate state.old.register state.old.place state.old.holds (length octets.now) (length symbols.old)) 0 }
     ensures { Accepted rate state.old octets.now result state.new symbols.new }
 {
-    let start = opened(*state);
+    let start = opened(state);
     let end = all_in(&Pattern::of(rate), octets, symbols, start);
     *state = handed(end);
     own_symbols(symbols.len(), start.holds, end.holds)

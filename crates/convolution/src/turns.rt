@@ -57,7 +57,13 @@ impl Pattern {
         }
     }
 
-    pub(crate) fn turn(&self, group: &Group, octets: &[u8], symbols: &mut [u8], at: Progress) -> Progress
+    pub(crate) fn turn(
+        &self,
+        group: &Group,
+        octets: &[u8],
+        symbols: &mut [u8],
+        at: Progress,
+    ) -> Progress
         requires { Grouped self.now.rate group.now × Underway self.now.rate octets.now symbols.old at × (at.read < length octets.now) }
         ensures { Turned self.now.rate octets.now symbols.old at symbols.new result }
     {

@@ -7,14 +7,15 @@ ghost use Rattle.convolution.specs.GroupWorking.{Put};
 use crate::Flow;
 
 // The octet that stands above so many of the symbols.
-fn octet_above(symbols: u64, below: usize) -> u8
-    requires { below < 64 }
+fn octet_above(symbols: u32, below: usize) -> u8
+    requires { below < 32 }
     ensures { result ≡ symbols / 2 ^ below % 256 }
 {
     ((symbols >> below) % 256) as u8
 }
 
-// Writes out the whole octets among the held symbols, none, one or two, the first at `at`.
+// Writes out the whole octets among the held symbols, none, one or two, the first at `at`. No `for` over them: with it rate 1/2 with symbols held took
+// 2.6 times as long.
 pub(crate) fn write_ready(symbols: &mut [u8], at: usize, held: u32, holds: usize)
     requires { (holds ≤ 23) × (at + holds / 8 ≤ length symbols.old) }
     ensures { Ready symbols.old at held holds symbols.new }
@@ -22,11 +23,11 @@ pub(crate) fn write_ready(symbols: &mut [u8], at: usize, held: u32, holds: usize
     if holds < 8 {
         return;
     }
-    symbols[at] = octet_above(u64::from(held), holds - 8);
+    symbols[at] = octet_above(held, holds - 8);
     if holds < 16 {
         return;
     }
-    symbols[at + 1] = octet_above(u64::from(held), holds - 16);
+    symbols[at + 1] = octet_above(held, holds - 16);
 }
 
 // The lowest octets of a number, the first at `at`.
@@ -37,7 +38,7 @@ fn write_number(symbols: &mut [u8], at: usize, number: u64, n: usize)
     symbols[at..at + n].copy_from_slice(&number.to_be_bytes()[8 - n..]);
 }
 
-// The numbers that can be are told apart, so that each is written in one piece.
+// The numbers that can be are told apart, so that each is written in one piece: with the number left open the punctured rates took 8 % longer.
 pub(crate) fn write_group(symbols: &mut [u8], at: usize, number: u64, n: usize)
     requires { ((n ≡ 6) ⊎ (n ≡ 8)) × (at + n ≤ length symbols.old) }
     ensures { Put symbols.old at number n symbols.new }

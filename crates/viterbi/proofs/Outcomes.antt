@@ -15,7 +15,6 @@ use Rattle.convolution.proofs.Bits.{bits-length}
 use Rattle.viterbi.specs.Likeliest.{places, Best}
 use Rattle.viterbi.specs.Outcome.{LikeliestOutcome}
 use Rattle.std.specs.Prelude.{Ok, Err}
-use Rattle.viterbi.specs.declared.found.Likeliest.{Likeliest}
 use Rattle.viterbi.specs.Working.{turned, to_go, path, ToGo, Walked}
 use Rattle.viterbi.proofs.Octets.{bits_of_lem}
 use Rattle.viterbi.proofs.Coding.{cost}

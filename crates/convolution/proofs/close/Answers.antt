@@ -1,6 +1,5 @@
 -- `close` meets its contract: as the checks refuse, or by whether symbols are held.
 use mathlib.Core.Path.{◌≡◌, ap, ◌∙◌}
-use mathlib.Core.List.{List}
 use Prim.Native.Nat.{ℕ}
 use native.Mathlib.Omega.{arith}
 use lib.ListN.{length, take}

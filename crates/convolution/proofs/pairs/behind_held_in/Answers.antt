@@ -1,7 +1,7 @@
 -- `behind_held_in` meets its contract. The loop's invariant: the call has gone so far.
 use native.Mathlib.Omega.{arith}
 use Rattle.convolution.specs.declared.Progress.{Progress}
-use Rattle.convolution.proofs.Turning.{going_first, going_underway, going_on, going_over, octet_room, octet_turned}
+use Rattle.convolution.proofs.Turning.{going_underway, going_on, going_over, octet_room, octet_turned}
 use Rattle.convolution.proofs.pairs.behind_held_in.Goals as goal
 
 pub write_ready-requires : goal.write_ready-requires

@@ -18,16 +18,21 @@ behind_held-out-requires c =
 pub write_group-requires : goal.write_group-requires
 write_group-requires c =
     let window = c.window_of-window in
-    let sent = c.symbols-sent in
-    (c.requires.0.filled, group_room c.args.rate c.args.octets.now c.args.symbols.now c.args.at c.args.group.now c.requires.0 c.requires.1 c.requires.2 c.requires.3
-    window.result c.sums.result c.sums-2.result sent.result window.ensures c.sums.ensures c.sums-2.ensures sent.ensures)
+    let sent = c.symbols-sent in (
+      c.requires.0.filled,
+      group_room c.args.rate c.args.octets.now c.args.symbols.now c.args.at c.args.group.now c.requires.0 c.requires.1 c.requires.2 c.requires.3
+          window.result c.sums.result c.sums-2.result sent.result window.ensures c.sums.ensures c.sums-2.ensures sent.ensures,
+    )
 
 pub overflow_add-result : goal.overflow_add-result
 overflow_add-result c =
     let window = c.window_of-window in
     let sent = c.symbols-sent in
-    omega (arith, group_room c.args.rate c.args.octets.now c.args.symbols.now c.args.at c.args.group.now c.requires.0 c.requires.1 c.requires.2 c.requires.3
-    window.result c.sums.result c.sums-2.result sent.result window.ensures c.sums.ensures c.sums-2.ensures sent.ensures)
+    omega (
+      arith,
+      group_room c.args.rate c.args.octets.now c.args.symbols.now c.args.at c.args.group.now c.requires.0 c.requires.1 c.requires.2 c.requires.3
+          window.result c.sums.result c.sums-2.result sent.result window.ensures c.sums.ensures c.sums-2.ensures sent.ensures,
+    )
 
 pub returns : goal.returns
 returns c =

@@ -1,10 +1,10 @@
 -- `window_of` meets its contract. The loop's invariant: the register stands above the octets read.
 use mathlib.Core.Path.{◌≡◌, refl, sym, ap, ◌∙◌, subst}
-use Prim.Native.Nat.{ℕ, ◌<◌, ◌+◌, ◌*◌, ◌/◌, ◌^◌}
+use Prim.Native.Nat.{ℕ, ◌<◌}
 use native.Mathlib.Omega.{arith}
-use lib.ListN.{length, get_or, take}
+use lib.ListN.{length, take}
 use lib.Seq.{take-length}
-use Rattle.convolution.specs.Coder.{low_bits, bits_of}
+use Rattle.convolution.specs.Coder.{bits_of}
 use Rattle.convolution.proofs.Turning.{window_small, window_above, window-below}
 use Rattle.convolution.proofs.turns.window_of.Goals as goal
 

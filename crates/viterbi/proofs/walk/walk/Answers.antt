@@ -3,8 +3,7 @@ use mathlib.Core.Path.{refl}
 use native.Mathlib.Omega.{arith}
 use mathlib.Core.List.{[]}
 use mathlib.Core.Path.{◌≡◌}
-use mathlib.Core.List.{List}
-use Prim.Native.Nat.{ℕ, ◌/◌, ◌<◌}
+use Prim.Native.Nat.{◌/◌, ◌<◌}
 use lib.ListN.{length, get_or, length-set}
 use Rattle.std.proofs.lemmas.List.{get_or-take, length-take}
 use Rattle.viterbi.proofs.Walking.{halfway_none, halfway_more, ahead-at, whole_way}
