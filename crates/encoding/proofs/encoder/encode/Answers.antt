@@ -21,8 +21,5 @@ returns-in_err-encode_parameters c =
 pub returns : goal.returns
 returns c = encode_accepts _ _ _ _ _ _ _ c.in_ok-encode_parameters.ensures (search octets_known) (checks_written _ _ _ _ _ _ (rows_first _ _ _ _ _ _ _ c.first.ensures.depth c.first.ensures.word c.enter.ensures) c.put_checks.ensures) c.copy_front.ensures
 
-pub enter-requires : goal.enter-requires
-enter-requires c = (legal (goal.at.enter-requires c).In_ok-encode_parameters).words.strength
-
 pub put_checks-requires : goal.put_checks-requires
 put_checks-requires c = checks_room _ _ _ c.args.frame.now c.args.block.now _ (legal (goal.at.put_checks-requires c).In_ok-encode_parameters) c.copy_front.ensures
