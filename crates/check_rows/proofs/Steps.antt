@@ -35,11 +35,6 @@ added_octet sum before octet e = sym (⊕_is sum octet) ∙ ap (λ (x : ℕ). x 
 
 -- ---- a mask in place of a choice
 
-pub mask_listed : (bit : ℕ) → bit < 2 → get_or (0 ∷ 255 ∷ []) bit 0 ≡ 255 * bit
-mask_listed zero h = refl
-mask_listed (suc zero) h = refl
-mask_listed (suc (suc bit)) h = absurd (omega arith)
-
 masked : (bit octet : ℕ) → bit < 2 → bit_and (255 * bit) octet ≡ where_set bit (octet % 256)
 unfolding where_set
 masked zero octet h = refl
@@ -57,9 +52,6 @@ added_masked bit octet sum before mask m e =
 pub record Added (rows : List ℕ) (feedback : ℕ) (row : List ℕ) (bit : ℕ) (sum : List ℕ) : Type 0 where
   pub size : length sum ≡ 32
   pub octet : (j : ℕ) → j < 32 → get_or sum j 0 ⊕ times_matrix (column rows j bit (8 - bit)) feedback ≡ get_or row j 0 ⊕ added_at rows feedback j
-
-pub bits-start : (rows : List ℕ) (feedback : ℕ) (row : List ℕ) → length row ≡ 32 → Added rows feedback row 0 row
-bits-start rows feedback row long = record { size = long; octet = λ j h. refl }
 
 pub bits_turn : (rows : List ℕ) (feedback bit : ℕ) (row sum next : List ℕ) → bit < 8 → Added rows feedback row bit sum → RowAdded (bit_at rows feedback bit) sum next
     → Added rows feedback row (bit + 1) next

@@ -1,10 +1,10 @@
 -- The table while it grows: from one row to 256, by a bit of the octet at a time.
-use mathlib.Core.Path.{◌≡◌, refl, sym, ap, ap₂, ◌∙◌}
+use mathlib.Core.Path.{◌≡◌, sym, ap, ap₂, ◌∙◌}
 use mathlib.Core.List.{List, ◌++◌}
 use Prim.Native.Nat.{ℕ, ◌+◌, ◌-◌, ◌*◌, ◌%◌, ◌^◌, ◌<◌}
 use native.Mathlib.Nat.{pow-suc, mod-eq_of_lt}
 use native.Mathlib.Numerals.{add-one}
-use native.Mathlib.Decide.{dec_lt, ℕ_discrete}
+use native.Mathlib.Decide.{dec_lt}
 use native.Mathlib.Omega.{arith}
 use lib.ListN.{length, get_or, take, replicate, get_or-replicate, length-take, get_or-append}
 use lib.Seq.{get_or-take}
@@ -45,24 +45,6 @@ pub record Doubling (size : ℕ) (row before : List ℕ) (f : ℕ) (after : List
   pub long : length after ≡ length before
   pub old : (n : ℕ) → n < 32 * size → get_or after n 0 ≡ get_or before n 0
   pub new : (g j : ℕ) → g < f → j < 32 → get_or after (32 * (size + g) + j) 0 ≡ get_or before (32 * g + j) 0 ⊕ get_or row j 0
-
-pub doubling_starts : (size : ℕ) (row before : List ℕ) → Doubling size row before 0 before
-doubling_starts size row before = record { long = refl; old = λ n h. refl; new = λ g j h l. absurd (omega arith) }
-
-pub doubling_turn : (size : ℕ) (row before : List ℕ) (f : ℕ) (table after : List ℕ) → f < size → Doubling size row before f table → SumPut f (size + f) row table after → Doubling size row before (f + 1) after
-doubling_turn size row before f table after h D P =
-    record {
-      long = P.size ∙ D.long;
-      old = λ n l. P.front n (omega arith) ∙ D.old n l;
-      new = λ g j l m. elim (ℕ_discrete g f) [
-        | yes e ↦ ap (λ (k : ℕ). get_or after (32 * (size + k) + j) 0) e ∙ P.here j m
-            ∙ ap (λ (x : ℕ). x ⊕ get_or row j 0) (D.old (32 * f + j) (omega arith) ∙ ap (λ (k : ℕ). get_or before (32 * k + j) 0) (sym e))
-        | no d ↦ P.front (32 * (size + g) + j) (omega arith) ∙ D.new g j (omega arith) m
-      ];
-    }
-
-pub doubling_ends : (size : ℕ) (row before : List ℕ) (f : ℕ) (after : List ℕ) → f ≡ size → Doubling size row before f after → Doubled size row before after
-doubling_ends size row before f after e D = record { long = D.long; old = D.old; new = λ g j l m. D.new g j (omega arith) m }
 
 -- ---- all rows
 

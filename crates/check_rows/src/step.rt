@@ -21,6 +21,7 @@ impl FeedbackRows for [u8; 256] {
     fn added_to(&self, feedback: u8, row: [u8; 32]) -> [u8; 32] {
         let mut sum = row;
         for bit in 0..8 {
+            // In two steps: the borrow checker does not cover `sum = with_bit(.., sum)`.
             let more = with_bit(self, feedback, bit, sum);
             sum = more;
         }

@@ -25,7 +25,7 @@ fn put_sum(table: &mut [u8], from: usize, to: usize, row: [u8; 32])
     table[target..target + 32].copy_from_slice(&sum);
 }
 
-// As many rows more as there are: each of the old ones with the row of the next bit added.
+// As many rows more as there are: each of the old ones with the row of the next bit added. Rows go by number, since both stand in one table.
 fn double(table: &mut [u8], size: usize, row: [u8; 32])
     requires { (0 < size) × (size ≤ 128) × (length table.old ≡ 8192) }
     ensures { Doubled size row table.old table.new }

@@ -119,9 +119,10 @@ pub record ChecksWritten (e i : ℕ) (frame after : List ℕ) : Type 0 where
   pub done : RowsOn e i 0 no_rows frame rows
   pub checks : ChecksPut rows i (length frame) put after
 
-abbrev pub checks_written : (e i : ℕ) (frame after put : List ℕ) (rows : List (List ℕ)) → RowsOn e i 0 no_rows frame rows
+abbrev pub checks_written : (e i depth word : ℕ) (frame after put : List ℕ) (rows : List (List ℕ)) → depth ≡ i → word ≡ 0 → RowsOn e depth word no_rows frame rows
     → ChecksPut rows i (length frame) put after → ChecksWritten e i frame after
-checks_written e i frame after put rows R C = record { put = put; rows = rows; done = R; checks = C }
+checks_written e i depth word frame after put rows p q R C =
+    record { put = put; rows = rows; done = subst (λ (n : ℕ). RowsOn e n 0 no_rows frame rows) p (subst (λ (w : ℕ). RowsOn e depth w no_rows frame rows) q R); checks = C }
 
 -- what a slice of octets is known to hold
 pub octets_known : (frame : List ℕ) → ((m : ℕ) → Fits w8 (get_or frame m 0)) → (m : ℕ) → get_or frame m 0 < 256

@@ -9,7 +9,7 @@ use native.Mathlib.Decide.{ℕ_discrete}
 use native.Mathlib.Omega.{arith}
 use lib.ListN.{length, take, get_or, set, replicate, length-set, get_or-replicate}
 use lib.Seq.{get_or-set_same, get_or-set_other, length-take-le, take-suc, take-length}
-use Rattle.encoding.specs.Rows.{entered, in_row, rows_entered, no_rows, RowsOn}
+use Rattle.encoding.specs.Rows.{entered, in_row, rows_entered, no_rows}
 use Rattle.encoding.specs.Working.{EnteredBy, row_after, RowsBy}
 use Rattle.encoding.specs.Turns.{NextWord}
 use Rattle.encoding.proofs.Interleaving.{word_of_lem, place_symbol}
@@ -102,11 +102,6 @@ module _ (adds : ℕ → ℕ → ℕ) (i first : ℕ) (before : List (List ℕ))
 
   pub turn_end : (at word : ℕ) (rows : List (List ℕ)) → at ≡ length symbols → Turn adds i first before symbols at word rows → RowsBy adds i first before symbols rows
   turn_end at word rows p T = subst (λ (list : List ℕ). RowsBy adds i first before list rows) (ap (λ (n : ℕ). take n symbols) p ∙ take-length symbols) T.done
-
--- where the first word's turn comes first
-pub rows_first : (e i depth word : ℕ) (rows : List (List ℕ)) (symbols : List ℕ) (after : List (List ℕ)) → depth ≡ i → word ≡ 0 → RowsOn e depth word rows symbols after → RowsOn e i 0 rows symbols after
-rows_first e i depth word rows symbols after p q R =
-    subst (λ (n : ℕ). RowsOn e n 0 rows symbols after) p (subst (λ (w : ℕ). RowsOn e depth w rows symbols after) q R)
 
 -- ---- a whole frame
 

@@ -18,9 +18,9 @@ use Rattle.codewords.specs.Polynomials.{◌⊞◌}
 use Rattle.codewords.proofs.WordValues.{length_pair, length_snoc}
 use Rattle.refusals.specs.Order.{OneOf}
 use Rattle.refusals.specs.Sizes.{strengths}
-use Rattle.check_rows.specs.Rows.{column, added_at, table_at, SumTable, Stepped}
-use Rattle.encoding.specs.Rows.{product, entered, in_row}
-use Rattle.encoding.specs.Working.{table_rows, StrengthTable, AddsAs, EnteredBy}
+use Rattle.check_rows.specs.Rows.{column, Stepped}
+use Rattle.encoding.specs.Rows.{product, entered}
+use Rattle.encoding.specs.Working.{table_rows, EnteredBy}
 
 -- ---- a linear function of an octet is a matrix of its values at the eight bits
 
@@ -131,13 +131,6 @@ stepped_entered adds (first ∷ row) symbol after size small S generator long ad
 
     done : (j : ℕ) → j < 32 → get_or after j 0 ≡ get_or (up ⊞ products) j 0
     done j h = S.octet j h ∙ ap₂ (λ (x y : ℕ). x ⊕ y) (sym (get_or-snoc row j)) (whole j h) ∙ sym (get_or-⊞ up products j)
-
--- what the rows of a strength add, by eight rows and by the table of all sums
-pub bits_add : (e : ℕ) (bits : List ℕ) → StrengthTable e bits → AddsAs (added_at bits) (in_row e)
-bits_add e bits listed f j h l = ap (λ (t : List ℕ). added_at t f j) listed
-
-pub table_adds : (bits table generator : List ℕ) → AddsAs (added_at bits) generator → SumTable bits table → AddsAs (table_at table) generator
-table_adds bits table generator adds S f j h l = S.sums f j h l ∙ adds f j h l
 
 -- a strength that is not 8 is 16
 pub other_strength : (e : ℕ) → OneOf strengths e → (e ≡ 8 → ⊥) → e ≡ 16

@@ -61,7 +61,7 @@ pub(crate) fn enter(e: u32, rows: &mut [[u8; 32]; 8], first: Turn, symbols: &[u8
     }
 }
 
-// The checks follow the frame, interleaved as it is.
+// The checks follow the frame, interleaved as it is. They are counted: a division for each octet takes 2.8 times as long.
 pub(crate) fn put_checks(rows: [[u8; 32]; 8], depth: usize, start: usize, block: &mut [u8])
     requires { ChecksFit depth start (length block.old) }
     ensures { ChecksPut rows depth start block.old block.new }

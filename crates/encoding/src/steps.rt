@@ -12,8 +12,7 @@ fn may_enter(e: u32, first: usize, depth: usize) -> bool
     refusals::strength_legal(e) && first < depth && depth <= 8
 }
 
-// The symbols enter in turn, the first of them the row of word `first`. The rows come and go by value: of an array behind a reference the
-// length is not known.
+// The symbols enter in turn, the first of them the row of word `first`.
 pub fn rows_entered(
     e: u32,
     mut rows: [[u8; 32]; 8],

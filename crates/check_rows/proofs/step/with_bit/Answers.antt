@@ -1,13 +1,9 @@
 -- `with_bit` adds the row of one bit through a mask that is zero where the bit is clear.
 use Rattle.std.proofs.Common.{rules, arith, refl, ◌∙◌, ◌+◌, ◌*◌, ◌-◌, ◌/◌, ◌^◌, get_or}
-use native.Mathlib.Nat.{mod-lt}
 use lib.Bits.{bit_and, bit_xor}
 use Rattle.check_rows.proofs.Made.{made_at}
 use Rattle.check_rows.proofs.Steps.{added_masked}
 use Rattle.check_rows.proofs.step.with_bit.Goals as goal
-
-pub mask_of-mask-requires : goal.mask_of-mask-requires
-mask_of-mask-requires c = mod-lt _ (omega arith)
 
 pub returns : goal.returns
 returns c =

@@ -4,7 +4,6 @@ use mathlib.Core.Path.{refl}
 use lib.ListN.{length}
 use Rattle.std.proofs.lemmas.Result.{err_from_is_err_and}
 use Rattle.encoding.proofs.CodedBlocks.{EncodeLegal, encode_legal, checks_room, octets_known, checks_written, encode_refuses, encode_accepts}
-use Rattle.encoding.proofs.RowTurns.{rows_first}
 use Rattle.encoding.proofs.encoder.encode.Goals as goal
 use Rattle.encoding.proofs.encoder.encode.Goals.{In_ok-encode_parameters}
 
@@ -19,10 +18,7 @@ returns-in_err-encode_parameters c =
 
 -- accepted
 pub returns : goal.returns
-returns c = encode_accepts _ _ _ _ _ _ _ c.in_ok-encode_parameters.ensures (search octets_known) (checks_written _ _ _ _ _ _ (rows_first _ _ _ _ _ _ _ c.first.ensures.depth c.first.ensures.word c.enter.ensures) c.put_checks.ensures) c.copy_front.ensures
-
-pub enter-requires : goal.enter-requires
-enter-requires c = (legal (goal.at.enter-requires c).In_ok-encode_parameters).words.strength
+returns c = encode_accepts _ _ _ _ _ _ _ c.in_ok-encode_parameters.ensures (search octets_known) (search checks_written) (search)
 
 pub put_checks-requires : goal.put_checks-requires
 put_checks-requires c = checks_room _ _ _ c.args.frame.now c.args.block.now _ (legal (goal.at.put_checks-requires c).In_ok-encode_parameters) c.copy_front.ensures

@@ -8,7 +8,7 @@ use borrow.Author.Rules.{rules}
 use Rattle.std.proofs.lemmas.List.Edits.{fill_by_more}
 use Rattle.std.proofs.lemmas.Slice.{overwrites}
 use Rattle.encoding.specs.Turns.{NextWord}
-use Rattle.encoding.proofs.Interleaving.{symbol_below, interleaved, interleaved-at, next_place, checks_put}
+use Rattle.encoding.proofs.Interleaving.{interleaved, interleaved-at, next_place, checks_put}
 use Rattle.encoding.proofs.encoder.put_checks.Goals as goal
 use Rattle.encoding.proofs.encoder.put_checks.Goals.{then-turn-eq0, else-turn-eq0}
 
@@ -27,12 +27,6 @@ loop-octet-preserved c =
       ],
       written,
     )
-
-pub bounds-rows-check : goal.bounds-rows-check
-bounds-rows-check c = omega (arith, symbol_below c.args.depth c.loop-octet.check 32 c.loop-octet.turn.word (omega arith))
-
-pub overflow_add-check : goal.overflow_add-check
-overflow_add-check c = omega (arith, symbol_below c.args.depth c.loop-octet.check 32 c.loop-octet.turn.word (omega arith))
 
 pub returns : goal.returns
 returns c = checks_put _ _ _ _ _ (omega arith) (search (rules, overwrites)) (λ n h. c.loop-octet.invariant.2 n (omega arith)) (search (rules, overwrites))
