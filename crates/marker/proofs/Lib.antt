@@ -1,7 +1,6 @@
 -- The laws of the marker.
 pub mod Word
 pub mod Forms
-pub mod Tests
 pub mod Searches
 pub mod Sofar
 pub mod Passing

@@ -1,13 +1,13 @@
--- What the search has seen before a bit, how that grows with each bit, and what each way out of its loops then answers.
-use Rattle.std.proofs.Common.{◌≡◌, ℕ, suc, ◌+◌, ◌-◌, ◌*◌, ◌/◌, ◌%◌, ◌^◌, ◌<◌, ◌≤◌, ◌⊎◌, List, length, get_or, ap, ◌∙◌, inl, inr, ⊎_elim, eq-or-lt_of_le, arith}
+-- What the search has seen before a bit, how that grows with each bit, and what it finds.
+use Rattle.std.proofs.Common.{◌≡◌, ℕ, suc, ◌+◌, ◌-◌, ◌*◌, ◌/◌, ◌%◌, ◌^◌, ◌<◌, ◌≤◌, List, length, get_or, ap, ◌∙◌, ⊎_elim, eq-or-lt_of_le, arith}
 use lib.Bits.{bit_xor}
 use lib.Count.{ones}
 use Rattle.octets.specs.Bits.{bit_at}
 use Rattle.octets.proofs.Bits.{bit_of_octet}
 use Rattle.marker.specs.declared.Form.{Form}
 use Rattle.marker.specs.declared.Form.TheVariants.{True}
-use Rattle.marker.specs.Place.{wrong_bits, nearer, fewer, form_at, fewest_wrong, NoneFits, remaining}
-use Rattle.marker.specs.Outcome.{FoundFirst, NoneLeft, BudgetSpent}
+use Rattle.marker.specs.Place.{wrong_bits, nearer, fewer, form_at, fewest_wrong, NoneFits}
+use Rattle.marker.specs.Outcome.{FoundFirst}
 use Rattle.marker.specs.Working.{word, base, Carried}
 use Rattle.marker.proofs.Forms.{named_at}
 use Rattle.marker.proofs.Word.{word_none, word_more, front_enters, word_split, word_small, word-wrong, bit_small}
@@ -19,13 +19,6 @@ pub record Sofar (tolerance : ℕ) (s : List ℕ) (start budget q window looked 
   pub counted : looked ≡ q - (start + 31)
   pub none : NoneFits tolerance s start (start + looked)
   pub within : looked ≤ budget
-
--- Where the loops are left and nothing was found.
-pub record Stopped (tolerance : ℕ) (s : List ℕ) (start budget looked : ℕ) : Type 0 where
-  pub none : NoneFits tolerance s start (start + looked)
-  pub within : looked ≤ budget
-  pub bounded : looked ≤ remaining s start
-  pub why : (looked ≡ budget) ⊎ (looked ≡ remaining s start)
 
 -- ---- the window
 
@@ -65,12 +58,6 @@ window_here s start q {window} h old =
 -- ---- what was seen
 
 module _ {tolerance : ℕ} {s : List ℕ} {start budget : ℕ} where
-  pub begins : {window : ℕ} → Carried s start (start + 31) window → Sofar tolerance s start budget (start + 31) window 0
-  begins carried = record { reached = omega arith; carried = carried; counted = omega arith; none = λ p l h f. omega arith; within = omega arith }
-
-  pub moved : {p q window looked : ℕ} → p ≡ q → Sofar tolerance s start budget p window looked → Sofar tolerance s start budget q window looked
-  moved e h = rw (← e) h
-
   module _ (i b : ℕ) {window next looked : ℕ} (small : b < 8) (so : Sofar tolerance s start budget (i * 8 + b) window looked)
       (e : next ≡ window * 2 % 2 ^ 32 + get_or s i 0 / 2 ^ (7 - b) % 2) where
     carried_on : Carried s start (i * 8 + (b + 1)) next
@@ -117,24 +104,3 @@ module _ {tolerance : ℕ} {s : List ℕ} {start budget : ℕ} where
         counted = omega arith;
         affordable = omega arith;
       }
-
-  pub out_of_budget : (i b : ℕ) {window looked : ℕ} → b < 8 → Sofar tolerance s start budget (i * 8 + b) window looked → i < length s → looked ≡ budget → Stopped tolerance s start budget looked
-  out_of_budget i b small so inside all =
-      record { none = so.none; within = so.within; bounded = omega arith; why = inl all }
-
-  pub none_there : 8 * length s ≤ start + 31 → NoneLeft tolerance s start budget 0
-  none_there past = record { none = λ p l place. absurd (omega arith); counted = omega arith; affordable = omega arith }
-
-  pub ended : {window looked : ℕ} → Sofar tolerance s start budget (length s * 8) window looked → Stopped tolerance s start budget looked
-  ended so = record { none = so.none; within = so.within; bounded = omega arith; why = inr (omega arith) }
-
-  -- ---- what is answered where nothing was found
-
-  module _ {looked : ℕ} (h : Stopped tolerance s start budget looked) where
-    pub spent : start + looked + 32 ≤ 8 * length s → BudgetSpent tolerance s start budget (start + looked) looked
-    spent inside =
-        let all : looked ≡ budget = ⊎_elim (λ e. e) (λ e. omega arith) h.why in
-        record { inside = inside; none = h.none; reached = omega arith; counted = all }
-
-    pub absent : 8 * length s < start + looked + 32 → NoneLeft tolerance s start budget looked
-    absent past = record { none = λ p l place. h.none p l (omega arith); counted = omega arith; affordable = h.within }

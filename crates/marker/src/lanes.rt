@@ -85,6 +85,7 @@ impl<'a> Hunt<'a> {
     {
         let table = OctetTable::new();
         let mut i = first;
+        // No `for`: how far each turn goes on is what it found.
         while i < end {
             let near = self.passed(&table, i, end);
             let next = end.min(near + 4);

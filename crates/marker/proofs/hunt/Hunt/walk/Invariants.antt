@@ -1,5 +1,4 @@
--- `walk` answers what it saw. Both loops keep `Sofar` before the next bit, i * 8 + b; the measures are the bits and the octets left.
--- Where the loops are left and nothing was found, by the budget or at the end, `Stopped` holds, from which either answer follows.
+-- Both loops of `walk` keep `Sofar` before the next bit, bit b of an octet.
 use Rattle.std.proofs.Common.{◌≡◌, ◌+◌, ◌-◌, ◌*◌, ◌<◌, ◌≤◌, length}
 use Rattle.marker.proofs.Sofar.{Sofar}
 use Rattle.marker.proofs.hunt.Hunt.walk.Given as goal
