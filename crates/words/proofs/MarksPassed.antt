@@ -1,10 +1,10 @@
 -- The walk over a word's marks from the last to the first, beside the locators from the first on.
 use mathlib.Core.Path.{◌≡◌, refl, sym, ap, ◌∙◌, subst}
-use mathlib.Core.Logic.{◌≢◌, ◌⊎◌, inl, inr}
+use mathlib.Core.Logic.{◌≢◌}
 use mathlib.Core.List.{List, [], ◌∷◌, ◌++◌}
 use Prim.Native.Nat.{ℕ, suc, ◌+◌, ◌-◌, ◌≤◌, ◌<◌}
 use native.Mathlib.Omega.{arith}
-use lib.ListN.{length, get_or, drop, length-drop}
+use lib.ListN.{length, get_or, drop}
 use lib.Seq.{drop-cons}
 use Rattle.codewords.specs.Locators.{X}
 use Rattle.words.specs.Working.{Filled, by_root_at, HoldsProduct}
@@ -71,8 +71,3 @@ module _ (table start marks rest zs out rest' zs' : List ℕ) (mark z : ℕ) (T 
 
   pub passed_plain : mark ≡ 0 → Passed table start marks rest' zs' out
   passed_plain e = passed_by out (product_plain start marks power out within held_before (mark_is ∙ e))
-
-pub passed_ends : (table start marks rest zs out : List ℕ) → length table ≡ 255 → length marks ≤ 255 → Passed table start marks rest zs out → length rest ≡ 0 ⊎ length zs ≡ 0 → HoldsProduct start marks out
-passed_ends table start marks rest zs out size short P e =
-    let all : length rest ≡ 0 = elim e [ inl f ↦ f | inr f ↦ omega (arith, f, P.front.few, ap length P.behind, length-drop (length marks - length rest) table) ] in
-    rw all at P.held

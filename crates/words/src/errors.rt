@@ -16,7 +16,7 @@ fn times_round(power: u8, m: usize) -> usize
     power as usize * m % 255
 }
 
-// The m-th powers of the locators of 16 places, which are locators too.
+// The m-th powers of the locators of 16 places, which are locators too. The bound is on m, not on a type: m is 1 here as well as the code's.
 fn locator_powers(powers: &[u8; 16], m: usize) -> [u8; 16]
     requires { m ≤ 128 }
     ensures { Filled (locator_power powers.now m) 16 result 16 }
