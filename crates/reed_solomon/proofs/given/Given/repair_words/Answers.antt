@@ -4,7 +4,7 @@ use mathlib.Core.Bool.{true, false}
 use native.Mathlib.Omega.{arith}
 use Rattle.refusals.proofs.Legal.{strength_bounds}
 use Rattle.reed_solomon.proofs.WordRepairs.{fits, sofar_starts, lowest_lost, sofar_turn, few_differ}
-use Rattle.reed_solomon.proofs.decoder.repair_words.Goals as goal
+use Rattle.reed_solomon.proofs.given.Given.repair_words.Goals as goal
 
 pub loop-w-init : goal.loop-w-init
 loop-w-init c = (refl, sofar_starts _ _ _ _ _ _, omega arith)
@@ -17,7 +17,7 @@ returns-in_default-clause-words c =
 pub loop-w-preserved : goal.loop-w-preserved
 loop-w-preserved c =
     let at = c.loop-w in
-    let F = fits c.args.given.now in
+    let F = fits c.args.self.now in
     let few = few_differ _ _ _ _ _ at.w _ c.in-Some.count (c.in-Some.ensures.when_found refl) in (
       c.repair_word.ensures.size ∙ at.invariant.0,
       sofar_turn _ _ _ _ _ at.frame at.counts at.total at.w true c.in-Some.count _ (omega arith) at.invariant.1 c.in-Some.ensures F.deep refl,
