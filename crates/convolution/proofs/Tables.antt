@@ -26,4 +26,3 @@ same_lists (x ∷ xs) (y ∷ ys) t = ap₂ ◌∷◌ (eqb→eq x y (both_left (e
 -- At most two symbols for each bit.
 pub symbols_most : (rate place n : ℕ) → OneOf rates rate → symbol_count rate place n ≤ 16 * n
 symbols_most rate place n = each_rate (λ r. symbol_count r place n ≤ 16 * n) (omega arith) (omega arith) (omega arith) (omega arith) (omega arith) rate
-
