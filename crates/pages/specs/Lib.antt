@@ -1,0 +1,2 @@
+-- The numbers that stand in for data.
+pub mod Draws
