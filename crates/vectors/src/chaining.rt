@@ -127,10 +127,9 @@ fn codes(rt: &impl Print) -> io::Result<()> {
     there_and_back(rt, code(8, 8, 0), false, true, 64, 1912, 2044)
 }
 
-// A code, and the lengths of frame and marked block.
-fn refused(rt: &impl Print) -> io::Result<()> {
+// Each parameter out of its range.
+fn parameters(rt: &impl Print) -> io::Result<()> {
     for (code, frame, marked) in [
-        // Parameters.
         (code(7, 1, 0), 241, 259),
         (code(9, 6, 0), 1422, 1534),
         (code(17, 1, 0), 221, 259),
@@ -139,19 +138,21 @@ fn refused(rt: &impl Print) -> io::Result<()> {
         (code(16, 9, 0), 2007, 2299),
         (code(16, 1, 223), 0, 36),
         (code(8, 1, 239), 1, 20),
-        // Each length one short and one over, both wrong, and empty ones.
-        (code(16, 1, 222), 0, 37),
-        (code(16, 1, 222), 2, 37),
-        (code(16, 1, 222), 1, 36),
-        (code(16, 1, 222), 1, 38),
-        (code(16, 1, 222), 2, 36),
-        (code(16, 1, 222), 0, 0),
-        (code(8, 8, 0), 1912, 2045),
-        (code(8, 8, 0), 1913, 2044),
     ] {
         there_and_back(rt, code, true, true, 0, frame, marked)?;
     }
     Ok(())
+}
+
+// Each length one short and one over, both wrong, and empty ones.
+fn lengths(rt: &impl Print) -> io::Result<()> {
+    let shortest = code(16, 1, 222);
+    for (frame, marked) in [(0, 37), (2, 37), (1, 36), (1, 38), (2, 36), (0, 0)] {
+        there_and_back(rt, shortest, true, true, 0, frame, marked)?;
+    }
+    let longest = code(8, 8, 0);
+    there_and_back(rt, longest, true, true, 0, 1912, 2045)?;
+    there_and_back(rt, longest, true, true, 0, 1913, 2044)
 }
 
 // A marker with no to four wrong bits, at each tolerance and one past the last.
@@ -231,7 +232,8 @@ fn two_faults(rt: &impl Print, added: u8) -> io::Result<()> {
 // All marked blocks as they were sent, or with all bits inverted.
 pub(crate) fn all(rt: &impl Print) -> io::Result<()> {
     codes(rt)?;
-    refused(rt)?;
+    parameters(rt)?;
+    lengths(rt)?;
     for added in [0x00, 0xFF] {
         wrong_markers(rt, added)?;
         damaged(rt, 16, true, added, &mut [0; 69])?;

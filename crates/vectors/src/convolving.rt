@@ -246,7 +246,7 @@ fn cut(rt: &impl Print, rate: u32, period: u8, input: &[u8], symbols: &mut [u8])
             return calls::convolve_close(rt, rate, state, &mut symbols[written..]);
         }
         y = turn(y);
-        let end = n.min(at + size(y));
+        let end = at + size(y).min(n - at);
         let ready = sent.min(written + filled(period, state, end - at));
         calls::convolve(
             rt,

@@ -56,19 +56,20 @@ fn wear_word(block: &mut [u8], last: usize, step: usize, wrong: u8, seed: u32) {
 // So many wrong symbols in each word, the last of them its last symbol. From one wrong symbol to the next it is so far that E + 1 of them
 // find a place.
 fn wear(block: &mut [u8], code: Code, wrong: &[u8; 8])
-    requires { (1 ≤ code.strength) × (code.depth ≤ 8) × (code.fill ≤ 254) × (code.depth ≤ length block.old) }
+    requires { (1 ≤ code.strength) × (code.depth ≤ 8) × (code.fill ≤ 254) }
 {
     let step = interleaved((254 - code.fill) / code.strength, code.depth);
     let depth = code.depth as usize;
-    let first = block.len() - depth;
-    for (word, wrong) in wrong[..depth].iter().enumerate() {
-        wear_word(block, first + word, step, *wrong, word as u32);
+    if let Some(first) = block.len().checked_sub(depth) {
+        for (word, wrong) in wrong[..depth].iter().enumerate() {
+            wear_word(block, first + word, step, *wrong, word as u32);
+        }
     }
 }
 
 // A block that is received with so many wrong symbols in each word.
 fn worn(rt: &impl Print, code: Code, s: u32, wrong: &[u8; 8], block: &[u8]) -> io::Result<()>
-    requires { (1 ≤ code.strength) × (code.strength ≤ 16) × (code.depth ≤ 8) × (code.fill ≤ 254) × (8 ≤ length block.now) × (length block.now ≤ 2040) }
+    requires { (1 ≤ code.strength) × (code.strength ≤ 16) × (code.depth ≤ 8) × (code.fill ≤ 254) × (length block.now ≤ 2040) }
 {
     let mut copied = [0u8; 2040];
     let received = &mut copied[..block.len()];
@@ -90,7 +91,7 @@ fn encoded(rt: &impl Print, code: Code, seed: u32, block: &mut [u8]) -> io::Resu
 // A clean block; few wrong symbols, all words repaired, then some, then the clean one only; as many as can be in every word, then all
 // words lost by the allowance; the first word past E, and of five and eight words the fifth; all words past E.
 fn damages(rt: &impl Print, code: Code, block: &[u8]) -> io::Result<()>
-    requires { (1 ≤ code.strength) × (code.strength ≤ 16) × (code.depth ≤ 8) × (code.fill ≤ 254) × (8 ≤ length block.now) × (length block.now ≤ 2040) }
+    requires { (1 ≤ code.strength) × (code.strength ≤ 16) × (code.depth ≤ 8) × (code.fill ≤ 254) × (length block.now ≤ 2040) }
 {
     let e = code.strength;
     let most = e as u8;
@@ -112,7 +113,7 @@ fn damages(rt: &impl Print, code: Code, block: &[u8]) -> io::Result<()>
 }
 
 fn any_words_lost(rt: &impl Print, code: Code) -> io::Result<()>
-    requires { (1 ≤ code.strength) × (code.strength ≤ 16) × (1 ≤ code.depth) × (code.depth ≤ 8) × (2 * code.strength + code.fill ≤ 254) }
+    requires { (1 ≤ code.strength) × (code.strength ≤ 16) × (code.depth ≤ 8) × (2 * code.strength + code.fill ≤ 254) }
 {
     let mut sent = [170u8; 2040];
     let block = &mut sent[..interleaved(255 - code.fill, code.depth)];
