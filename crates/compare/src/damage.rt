@@ -1,8 +1,7 @@
 // Wrong symbols, drawn as the second program draws them.
 ghost use Rattle.std.specs.Prelude.{◌≤◌, ◌<◌};
 
-use pages::turn;
-use refusals::Code;
+use pages::{Words, turn};
 
 // How the number of wrong symbols of a word goes by the word. The number of each is part of the seed.
 #[derive(Clone, Copy)]
@@ -14,15 +13,15 @@ pub(crate) enum Damage {
     SomePast = 4,
 }
 
-fn wrong_in(damage: Damage, code: Code, w: u32) -> u32
-    requires { (code.strength ≤ 16) × (w < 8) }
+fn wrong_in(damage: Damage, words: Words, w: u32) -> u32
+    requires { w < 8 }
 {
-    let e = code.strength;
+    let e = words.code.strength;
     match damage {
         Damage::None => 0,
         Damage::Mixed => (5 * w + 2) % (e + 1),
         Damage::Full => e,
-        Damage::LastPast => { if w + 1 == code.depth { e + 1 } else { 0 } }
+        Damage::LastPast => { if w + 1 == words.code.depth { e + 1 } else { 0 } }
         Damage::SomePast => (11 * w + 6) % (e + 2),
     }
 }
@@ -56,12 +55,11 @@ fn word(block: &mut [u8], depth: u32, w: u32, symbols: u32, wrong: u32, seed: u3
     x
 }
 
-pub(crate) fn words(block: &mut [u8], code: Code, damage: Damage)
-    requires { (code.strength ≤ 16) × (code.depth ≤ 8) × (code.fill ≤ 255) }
-{
+pub(crate) fn wear(block: &mut [u8], words: Words, damage: Damage) {
+    let code = words.code;
     let mut x = damage as u32 * 100 + code.strength + code.depth + code.fill;
     for w in 0..code.depth {
-        let wrong = wrong_in(damage, code, w);
+        let wrong = wrong_in(damage, words, w);
         x = word(block, code.depth, w, 255 - code.fill, wrong, x);
     }
 }

@@ -7,6 +7,7 @@ ghost use Rattle.std.specs.Prelude.{◌≤◌};
 mod damage;
 mod trials;
 
+use pages::Words;
 use refusals::Code;
 use std::io;
 
@@ -16,14 +17,12 @@ fn fills(rt: &impl Print, strength: u32, depth: u32) -> io::Result<()>
 {
     let information = 255 - 2 * strength;
     for fill in [0, 1, information / 2, information - 1] {
-        trials::all(
-            rt,
-            Code {
-                strength,
-                depth,
-                fill,
-            },
-        )?;
+        let code = Code {
+            strength,
+            depth,
+            fill,
+        };
+        trials::all(rt, Words { code })?;
     }
     Ok(())
 }

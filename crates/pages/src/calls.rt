@@ -9,18 +9,22 @@ pub fn encode(rt: &impl Print, code: Code, frame: &[u8], block: &mut [u8]) -> io
     ensures { EncodeLeaves code frame.now block.old block.new }
 {
     let verdict = encoding::encode(code, frame, block);
-    println!(rt; "encode{} {}{}", Coded(code), verdict_number(verdict), Buffer(block))
+    println!(rt;
+        "encode{} {}{}",
+        Coded(code),
+        verdict_number(verdict),
+        Buffer(block)
+    )
 }
 
-pub fn decode(
-    rt: &impl Print,
-    code: Code,
-    s: u32,
-    block: &[u8],
-    frame: &mut [u8],
-) -> io::Result<()>
+pub fn decode(rt: &impl Print, code: Code, s: u32, block: &[u8], frame: &mut [u8]) -> io::Result<()>
     ensures { DecodeLeaves code s block.now frame.old frame.new }
 {
     let decoded = reed_solomon::decode(code, s, block, frame);
-    println!(rt; "decode{} {s}{}{}", Coded(code), Decoded(decoded), Buffer(frame))
+    println!(rt;
+        "decode{} {s}{}{}",
+        Coded(code),
+        Decoded(decoded),
+        Buffer(frame)
+    )
 }

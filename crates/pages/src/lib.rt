@@ -3,8 +3,10 @@
 
 mod calls;
 mod draws;
+mod fitting;
 mod pieces;
 
 pub use calls::{decode, encode};
 pub use draws::{drawn, fill, turn};
+pub use fitting::Words;
 pub use pieces::{Buffer, Coded, Decoded, Numbers, Octets};

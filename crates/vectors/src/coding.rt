@@ -1,9 +1,9 @@
 // Reed-Solomon words: worked cases, allowances, and near codewords that do not count.
 ghost use Rattle.std.specs.Prelude.{length, ◌+◌, ◌≤◌};
 
-use crate::code;
 use crate::wrong::{changes, put};
-use pages::{Octets, decode, encode, fill};
+use crate::{code, shortest};
+use pages::{Octets, Words, decode, encode, fill};
 use refusals::Code;
 use std::io;
 
@@ -19,9 +19,8 @@ fn worked(rt: &impl Print) -> io::Result<()> {
 }
 
 // The first symbols of a codeword of the shortest word, then zeros: nearer to the codeword than to the zero word, or not.
-fn part(rt: &impl Print, code: Code, octet: u8, kept: usize, block: &mut [u8]) -> io::Result<()>
-    requires { 1 ≤ code.strength }
-{
+fn part(rt: &impl Print, words: Words, octet: u8, kept: usize, block: &mut [u8]) -> io::Result<()> {
+    let code = words.code;
     let n = block.len();
     encode(rt, code, &[octet], block)?;
     put(block, kept, n, 0);
@@ -32,33 +31,33 @@ fn part(rt: &impl Print, code: Code, octet: u8, kept: usize, block: &mut [u8]) -
 fn parts(rt: &impl Print, octet: u8) -> io::Result<()> {
     let mut long = [170u8; 33];
     let mut short = [170u8; 17];
-    part(rt, code(16, 1, 222), octet, 17, &mut long)?;
-    part(rt, code(16, 1, 222), octet, 16, &mut long)?;
-    part(rt, code(8, 1, 238), octet, 9, &mut short)?;
-    part(rt, code(8, 1, 238), octet, 8, &mut short)
+    part(rt, shortest(16, 222), octet, 17, &mut long)?;
+    part(rt, shortest(16, 222), octet, 16, &mut long)?;
+    part(rt, shortest(8, 238), octet, 9, &mut short)?;
+    part(rt, shortest(8, 238), octet, 8, &mut short)
 }
 
 // A frame of so many octets, with 170s before.
 fn decoded(rt: &impl Print, code: Code, s: u32, block: &[u8], frame: usize) -> io::Result<()>
-    requires { frame ≤ 256 }
+    requires { frame ≤ 2040 }
 {
-    let mut delivered = [170u8; 256];
+    let mut delivered = [170u8; 2040];
     decode(rt, code, s, block, &mut delivered[..frame])
 }
 
 // Three words with more wrong symbols from word to word: the word named is never an earlier one at a larger allowance.
-fn allowances(rt: &impl Print, strength: u32, frame: &mut [u8], wrong: [usize; 3]) -> io::Result<()>
-    requires { (strength ≤ 16) × (length frame.old ≤ 256) }
-{
-    let code = code(strength, 3, 200);
+fn allowances(rt: &impl Print, words: Words, wrong: [usize; 3]) -> io::Result<()> {
+    let code = words.code;
+    let frame = words.frame_length();
+    let mut information = [0u8; 2040];
     let mut block = [170u8; 165];
-    fill(21, frame);
-    encode(rt, code, frame, &mut block)?;
+    fill(21, &mut information);
+    encode(rt, code, &information[..frame], &mut block)?;
     for (word, wrong) in wrong.iter().enumerate() {
         changes(&mut block, word, 3, *wrong, 0x5A);
     }
-    for s in 0..strength + 2 {
-        decoded(rt, code, s, &block, frame.len())?;
+    for s in 0..code.strength + 2 {
+        decoded(rt, code, s, &block, frame)?;
     }
     Ok(())
 }
@@ -116,8 +115,9 @@ pub(crate) fn all(rt: &impl Print) -> io::Result<()> {
     for octet in [0x01, 0x80, 0xA5, 0xFF] {
         parts(rt, octet)?;
     }
-    allowances(rt, 16, &mut [0; 69], [4, 9, 16])?;
-    allowances(rt, 8, &mut [0; 117], [2, 5, 9])?;
+    for (code, wrong) in [(code(16, 3, 200), [4, 9, 16]), (code(8, 3, 200), [2, 5, 9])] {
+        allowances(rt, Words { code }, wrong)?;
+    }
     nonzero_fills(rt, 0)?;
     nonzero_fills(rt, 1)?;
     lost(rt)

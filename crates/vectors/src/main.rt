@@ -2,7 +2,7 @@
 // made by this code: docs/src/README.md says where each line comes from.
 #![tactic(auto)]
 
-ghost use Rattle.std.specs.Prelude.{◌≡◌};
+ghost use Rattle.std.specs.Prelude.{◌≡◌, ◌+◌, ◌*◌, ◌≤◌};
 
 mod answers;
 mod calls;
@@ -18,6 +18,7 @@ mod salvaging;
 mod symbols;
 mod wrong;
 
+use pages::Words;
 use refusals::Code;
 use std::io;
 
@@ -31,6 +32,14 @@ fn code(strength: u32, depth: u32, fill: u32) -> Code
         depth,
         fill,
     }
+}
+
+// Words of the shortest blocks.
+fn shortest(strength: u32, fill: u32) -> Words
+    requires { (1 ≤ strength) × (2 * strength + fill ≤ 254) }
+{
+    let code = code(strength, 1, fill);
+    Words { code }
 }
 
 fn main(rt: HostRuntime) -> io::Result<()> {

@@ -3,17 +3,9 @@ ghost use Rattle.std.specs.Prelude.{◌≡◌, length, ◌+◌, ◌*◌, ◌≤�
 
 use crate::{calls, code};
 use frame_portions::Progress;
-use pages::{Buffer, encode, fill, turn};
+use pages::{Buffer, Words, encode, fill, turn};
 use refusals::Code;
 use std::io;
-
-// So many octets of each of the words.
-pub(crate) fn interleaved(symbols: u32, depth: u32) -> usize
-    requires { (symbols ≤ 255) × (depth ≤ 8) }
-    ensures { (result ≡ symbols * depth) × (result ≤ 2040) }
-{
-    (symbols * depth) as usize
-}
 
 // Portions of 0 to 300 octets. No frame here has more than 64 of them; the close would be refused if one had.
 fn portions(
@@ -42,16 +34,15 @@ fn portions(
 }
 
 // The portions and the close, their outputs joined, and the block of the same frame in one call.
-fn cut(rt: &impl Print, code: Code) -> io::Result<()>
-    requires { (code.depth ≤ 8) × (2 * code.strength + code.fill ≤ 254) }
-{
+fn cut(rt: &impl Print, words: Words) -> io::Result<()> {
+    let code = words.code;
     let mut information = [0u8; 2040];
     let mut joined = [170u8; 2040];
     let mut whole = [170u8; 2040];
     let seed = code.strength + code.depth + code.fill;
     fill(seed, &mut information);
-    let sent = interleaved(255 - code.fill, code.depth);
-    let frame = &information[..interleaved(255 - code.fill - 2 * code.strength, code.depth)];
+    let sent = words.block_length();
+    let frame = &information[..words.frame_length()];
     let block = &mut joined[..sent];
     let mut state = portions(rt, code, seed, frame, block)?;
     calls::close(rt, code, &mut state, &mut block[frame.len()..])?;
@@ -65,16 +56,17 @@ fn fills(rt: &impl Print, strength: u32, depth: u32) -> io::Result<()>
 {
     let information = 255 - 2 * strength;
     for fill in [0, 1, information / 2, information - 1] {
-        cut(rt, code(strength, depth, fill))?;
+        let code = code(strength, depth, fill);
+        cut(rt, Words { code })?;
     }
     Ok(())
 }
 
-fn cuts(rt: &impl Print, strength: u32) -> io::Result<()>
-    requires { (1 ≤ strength) × (strength ≤ 16) }
-{
-    for depth in [1, 2, 3, 4, 5, 8] {
-        fills(rt, strength, depth)?;
+fn cuts(rt: &impl Print) -> io::Result<()> {
+    for strength in [8, 16] {
+        for depth in [1, 2, 3, 4, 5, 8] {
+            fills(rt, strength, depth)?;
+        }
     }
     Ok(())
 }
@@ -222,29 +214,25 @@ static CLOSES: [(u32, u32, u32, u32, bool, usize); 21] = [
     (8, 8, 238, 7, false, 128),
 ];
 
-fn portion_rows(rt: &impl Print, strength: u32) -> io::Result<()>
-    requires { strength ≤ 16 }
-{
-    for depth in [1, 2, 3, 4, 5, 8] {
-        let seed = 16 * depth + strength;
-        let state = state_at(7, false, seed);
-        portion_at(rt, code(strength, depth, 3), state, seed + 1, 100, 100)?;
+fn portion_rows(rt: &impl Print) -> io::Result<()> {
+    for strength in [8, 16] {
+        for depth in [1, 2, 3, 4, 5, 8] {
+            let seed = 16 * depth + strength;
+            let state = state_at(7, false, seed);
+            portion_at(rt, code(strength, depth, 3), state, seed + 1, 100, 100)?;
+        }
     }
     Ok(())
 }
 
-fn close_rows(rt: &impl Print, strength: u32) -> io::Result<()>
-    requires { strength ≤ 16 }
-{
-    for depth in [1, 2, 3, 4, 5, 8] {
-        let place = depth * (252 - 2 * strength);
-        let state = state_at(place, false, 16 * depth + strength);
-        close_at(
-            rt,
-            code(strength, depth, 3),
-            state,
-            interleaved(2 * strength, depth),
-        )?;
+fn close_rows(rt: &impl Print) -> io::Result<()> {
+    for strength in [8, 16] {
+        for depth in [1, 2, 3, 4, 5, 8] {
+            let place = depth * (252 - 2 * strength);
+            let checks = (depth * 2 * strength) as usize;
+            let state = state_at(place, false, 16 * depth + strength);
+            close_at(rt, code(strength, depth, 3), state, checks)?;
+        }
     }
     Ok(())
 }
@@ -260,8 +248,7 @@ fn limits_of_portions(rt: &impl Print) -> io::Result<()> {
             written,
         )?;
     }
-    portion_rows(rt, 8)?;
-    portion_rows(rt, 16)
+    portion_rows(rt)
 }
 
 fn limits_of_closes(rt: &impl Print) -> io::Result<()> {
@@ -273,13 +260,11 @@ fn limits_of_closes(rt: &impl Print) -> io::Result<()> {
             checks,
         )?;
     }
-    close_rows(rt, 8)?;
-    close_rows(rt, 16)
+    close_rows(rt)
 }
 
 pub(crate) fn all(rt: &impl Print) -> io::Result<()> {
-    cuts(rt, 8)?;
-    cuts(rt, 16)?;
+    cuts(rt)?;
     step_by_step(rt)?;
     limits_of_portions(rt)?;
     limits_of_closes(rt)

@@ -1,10 +1,10 @@
 // Salvage: any words of a block lost, near codewords that do not count, and every limit and one past it.
 ghost use Rattle.std.specs.Prelude.{length, ◌+◌, ◌*◌, ◌≤◌};
 
-use crate::portioning::interleaved;
 use crate::wrong::{change, put};
-use crate::{calls, code};
-use pages::{drawn, encode, fill, turn};
+use crate::{calls, code, shortest};
+use octets::copy_front;
+use pages::{Words, drawn, encode, fill, turn};
 use refusals::{Code, verdict_number};
 use std::io;
 
@@ -34,12 +34,10 @@ fn salvaged(
 }
 
 // Into a frame and a list of the right lengths.
-fn whole(rt: &impl Print, code: Code, s: u32, block: &[u8]) -> io::Result<()>
-    requires { (code.strength ≤ 16) × (code.depth ≤ 8) × (length block.now ≤ 2040) }
-{
-    let n = block.len();
-    let checks = interleaved(2 * code.strength, code.depth);
-    salvaged(rt, code, s, block, n.saturating_sub(checks), 4 * n)
+fn whole(rt: &impl Print, words: Words, s: u32, block: &[u8]) -> io::Result<()> {
+    let frame = words.frame_length();
+    let list = 4 * words.block_length();
+    salvaged(rt, words.code, s, block, frame, list)
 }
 
 // So many octets changed by drawn values, from the last on, each so many places before the one before.
@@ -55,45 +53,43 @@ fn wear_word(block: &mut [u8], last: usize, step: usize, wrong: u8, seed: u32) {
 
 // So many wrong symbols in each word, the last of them its last symbol. From one wrong symbol to the next it is so far that E + 1 of them
 // find a place.
-fn wear(block: &mut [u8], code: Code, wrong: &[u8; 8])
-    requires { (1 ≤ code.strength) × (code.depth ≤ 8) × (code.fill ≤ 254) }
-{
-    let step = interleaved((254 - code.fill) / code.strength, code.depth);
+fn wear(block: &mut [u8], words: Words, wrong: &[u8; 8]) {
+    let code = words.code;
     let depth = code.depth as usize;
+    let step = (254 - code.fill) / code.strength;
     if let Some(first) = block.len().checked_sub(depth) {
         for (word, wrong) in wrong[..depth].iter().enumerate() {
-            wear_word(block, first + word, step, *wrong, word as u32);
+            wear_word(
+                block,
+                first + word,
+                depth * step as usize,
+                *wrong,
+                word as u32,
+            );
         }
     }
 }
 
 // A block that is received with so many wrong symbols in each word.
-fn worn(rt: &impl Print, code: Code, s: u32, wrong: &[u8; 8], block: &[u8]) -> io::Result<()>
-    requires { (1 ≤ code.strength) × (code.strength ≤ 16) × (code.depth ≤ 8) × (code.fill ≤ 254) × (length block.now ≤ 2040) }
-{
+fn worn(rt: &impl Print, words: Words, s: u32, wrong: &[u8; 8], block: &[u8]) -> io::Result<()> {
     let mut copied = [0u8; 2040];
-    let received = &mut copied[..block.len()];
-    received.copy_from_slice(block);
-    wear(received, code, wrong);
-    whole(rt, code, s, received)
+    let received = &mut copied[..words.block_length()];
+    copy_front(block, received);
+    wear(received, words, wrong);
+    whole(rt, words, s, received)
 }
 
 // The block of a drawn frame.
-fn encoded(rt: &impl Print, code: Code, seed: u32, block: &mut [u8]) -> io::Result<()>
-    requires { (code.depth ≤ 8) × (2 * code.strength + code.fill ≤ 254) }
-{
+fn encoded(rt: &impl Print, words: Words, seed: u32, block: &mut [u8]) -> io::Result<()> {
     let mut frame = [0u8; 2040];
     fill(seed, &mut frame);
-    let n = interleaved(255 - 2 * code.strength - code.fill, code.depth);
-    encode(rt, code, &frame[..n], block)
+    encode(rt, words.code, &frame[..words.frame_length()], block)
 }
 
 // A clean block; few wrong symbols, all words repaired, then some, then the clean one only; as many as can be in every word, then all
 // words lost by the allowance; the first word past E, and of five and eight words the fifth; all words past E.
-fn damages(rt: &impl Print, code: Code, block: &[u8]) -> io::Result<()>
-    requires { (1 ≤ code.strength) × (code.strength ≤ 16) × (code.depth ≤ 8) × (code.fill ≤ 254) × (length block.now ≤ 2040) }
-{
-    let e = code.strength;
+fn damages(rt: &impl Print, words: Words, block: &[u8]) -> io::Result<()> {
+    let e = words.code.strength;
     let most = e as u8;
     let past = most + 1;
     let few = [1, 0, 2, 3, 4, 5, 6, 7];
@@ -107,18 +103,16 @@ fn damages(rt: &impl Print, code: Code, block: &[u8]) -> io::Result<()>
         (e, [past, 1, 0, most, past, 2, 0, 1]),
         (e, [past; 8]),
     ] {
-        worn(rt, code, s, &wrong, block)?;
+        worn(rt, words, s, &wrong, block)?;
     }
     Ok(())
 }
 
-fn any_words_lost(rt: &impl Print, code: Code) -> io::Result<()>
-    requires { (1 ≤ code.strength) × (code.strength ≤ 16) × (code.depth ≤ 8) × (2 * code.strength + code.fill ≤ 254) }
-{
+fn any_words_lost(rt: &impl Print, words: Words) -> io::Result<()> {
     let mut sent = [170u8; 2040];
-    let block = &mut sent[..interleaved(255 - code.fill, code.depth)];
-    encoded(rt, code, 61, block)?;
-    damages(rt, code, block)
+    let block = &mut sent[..words.block_length()];
+    encoded(rt, words, 61, block)?;
+    damages(rt, words, block)
 }
 
 fn codes(rt: &impl Print) -> io::Result<()> {
@@ -138,73 +132,73 @@ fn codes(rt: &impl Print) -> io::Result<()> {
         code(16, 8, 222),
         code(8, 8, 238),
     ] {
-        any_words_lost(rt, code)?;
+        any_words_lost(rt, Words { code })?;
     }
     Ok(())
 }
 
 // Three words, the third with E wrong symbols, at the allowances about their numbers, and one past E.
-fn allowances(rt: &impl Print, strength: u32, first: u8, second: u8) -> io::Result<()>
-    requires { (1 ≤ strength) × (strength ≤ 16) × (1 ≤ first) × (1 ≤ second) }
+fn allowances(rt: &impl Print, words: Words, first: u8, second: u8) -> io::Result<()>
+    requires { (1 ≤ first) × (1 ≤ second) }
 {
-    let code = code(strength, 3, 200);
+    let e = words.code.strength;
     let mut block = [170u8; 165];
-    let wrong = [first, second, strength as u8, 0, 0, 0, 0, 0];
-    encoded(rt, code, 67, &mut block)?;
-    for s in [u32::from(first), u32::from(second), strength] {
-        worn(rt, code, s - 1, &wrong, &block)?;
-        worn(rt, code, s, &wrong, &block)?;
+    let wrong = [first, second, e as u8, 0, 0, 0, 0, 0];
+    encoded(rt, words, 67, &mut block)?;
+    for s in [u32::from(first), u32::from(second), e] {
+        worn(rt, words, s - 1, &wrong, &block)?;
+        worn(rt, words, s, &wrong, &block)?;
     }
-    worn(rt, code, strength + 1, &wrong, &block)
+    worn(rt, words, e + 1, &wrong, &block)
 }
 
 // Case (K) of document 01, then one more symbol wrong.
 fn worked(rt: &impl Print) -> io::Result<()> {
-    let shortest = code(16, 1, 222);
+    let words = shortest(16, 222);
     let mut block = [0u8; 33];
-    whole(rt, shortest, 0, &block)?;
+    whole(rt, words, 0, &block)?;
     block[..16].fill(0xFF);
-    whole(rt, shortest, 16, &block)?;
-    whole(rt, shortest, 15, &block)?;
+    whole(rt, words, 16, &block)?;
+    whole(rt, words, 15, &block)?;
     block[16] = 0xFF;
-    whole(rt, shortest, 16, &block)
+    whole(rt, words, 16, &block)
 }
 
 // The first symbols of a codeword of the shortest word, then zeros: repaired to the codeword, or to the zero word.
-fn part(rt: &impl Print, code: Code, kept: usize, block: &mut [u8]) -> io::Result<()>
-    requires { (1 ≤ code.strength) × (code.strength ≤ 16) × (code.depth ≤ 8) × (length block.old ≤ 2040) }
-{
+fn part(rt: &impl Print, words: Words, kept: usize, block: &mut [u8]) -> io::Result<()> {
     let n = block.len();
-    encode(rt, code, b"\xA5", block)?;
+    encode(rt, words.code, b"\xA5", block)?;
     put(block, kept, n, 0);
-    whole(rt, code, code.strength, block)?;
-    whole(rt, code, code.strength - 1, block)
+    whole(rt, words, words.code.strength, block)?;
+    whole(rt, words, words.code.strength - 1, block)
 }
 
 fn parts(rt: &impl Print) -> io::Result<()> {
     let mut long = [170u8; 33];
     let mut short = [170u8; 17];
-    part(rt, code(16, 1, 222), 17, &mut long)?;
-    part(rt, code(16, 1, 222), 16, &mut long)?;
-    part(rt, code(8, 1, 238), 9, &mut short)?;
-    part(rt, code(8, 1, 238), 8, &mut short)
+    part(rt, shortest(16, 222), 17, &mut long)?;
+    part(rt, shortest(16, 222), 16, &mut long)?;
+    part(rt, shortest(8, 238), 9, &mut short)?;
+    part(rt, shortest(8, 238), 8, &mut short)
 }
 
 // Full codewords sent without their fill, which is zero but for its last symbol in the last word; some symbols wrong in each.
-fn nonzero_fill(rt: &impl Print, code: Code, last: u8, wrong: u8) -> io::Result<()>
-    requires { (1 ≤ code.strength) × (code.strength ≤ 16) × (1 ≤ code.depth) × (code.depth ≤ 8) × (1 ≤ code.fill) × (code.fill ≤ 100) }
+fn nonzero_fill(rt: &impl Print, words: Words, last: u8, wrong: u8) -> io::Result<()>
+    requires { (1 ≤ words.code.depth) × (1 ≤ words.code.fill) }
 {
-    let full = Code { fill: 0, ..code };
+    let code = words.code;
+    let full = Words {
+        code: Code { fill: 0, ..code },
+    };
+    let unsent = (code.fill * code.depth) as usize;
     let mut frame = [0u8; 2040];
     let mut block = [170u8; 2040];
-    let unsent = interleaved(code.fill, code.depth);
-    let n = interleaved(255 - 2 * code.strength, code.depth);
-    let end = interleaved(255, code.depth);
     fill(71, &mut frame);
     frame[..unsent - 1].fill(0);
     frame[unsent - 1] = last;
-    encode(rt, full, &frame[..n], &mut block[..end])?;
-    worn(rt, code, code.strength, &[wrong; 8], &block[unsent..end])
+    let whole = &mut block[..full.block_length()];
+    encode(rt, full.code, &frame[..full.frame_length()], whole)?;
+    worn(rt, words, code.strength, &[wrong; 8], &whole[unsent..])
 }
 
 fn nonzero_fills(rt: &impl Print, last: u8) -> io::Result<()> {
@@ -218,7 +212,7 @@ fn nonzero_fills(rt: &impl Print, last: u8) -> io::Result<()> {
         (code(8, 5, 100), 1),
         (code(8, 8, 1), 8),
     ] {
-        nonzero_fill(rt, code, last, wrong)?;
+        nonzero_fill(rt, Words { code }, last, wrong)?;
     }
     Ok(())
 }
@@ -308,8 +302,9 @@ pub(crate) fn all(rt: &impl Print) -> io::Result<()> {
     worked(rt)?;
     parts(rt)?;
     codes(rt)?;
-    allowances(rt, 16, 4, 9)?;
-    allowances(rt, 8, 2, 5)?;
+    for (code, first, second) in [(code(16, 3, 200), 4, 9), (code(8, 3, 200), 2, 5)] {
+        allowances(rt, Words { code }, first, second)?;
+    }
     nonzero_fills(rt, 0)?;
     nonzero_fills(rt, 1)?;
     for &(strength, depth, fill, s, block, frame, list) in &LIMITS {

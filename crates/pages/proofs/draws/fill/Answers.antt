@@ -1,6 +1,6 @@
 -- `fill`: each turn draws one octet more.
-use Rattle.std.proofs.Common.{rules, refl, ap, ◌∙◌, sym, ◌+◌, arith, length-set, not-suc-le-zero}
-use Rattle.pages.specs.Draws.{turned, octet_of, after, Drawn}
+use Rattle.std.proofs.Common.{refl, ap, ◌∙◌, arith, length-set, not-suc-le-zero}
+use Rattle.pages.specs.Draws.{turned, octet_of, after}
 use Rattle.pages.proofs.Turns.{after_more, drawn_turn}
 use Rattle.pages.proofs.draws.fill.Goals as goal
 

@@ -1,5 +1,5 @@
 -- `fill`: the number reached is that of as many turns as octets are drawn.
-use Rattle.std.proofs.Common.{◌≡◌, ℕ, length}
+use Rattle.std.proofs.Common.{◌≡◌, length}
 use Rattle.pages.specs.Draws.{after, Drawn}
 use Rattle.pages.proofs.draws.fill.Given as goal
 
