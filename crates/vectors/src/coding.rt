@@ -13,7 +13,7 @@ fn worked(rt: &impl Print) -> io::Result<()> {
     let mut block = [170u8; 33];
     encode(rt, shortest, b"\x00", &mut block)?;
     println!(rt; "block{}", Octets(&block))?;
-    block[..16].fill(0xFF);
+    put(&mut block, 0, 16, 0xFF);
     decode(rt, shortest, 16, &block, &mut [170])?;
     decode(rt, shortest, 15, &block, &mut [170])
 }
