@@ -4,7 +4,7 @@ ghost use Rattle.std.specs.Prelude.{◌≡◌, ◌+◌, ◌-◌, ◌*◌, ◌≤
 use refusals::Code;
 
 // At most eight words, of a strength that leaves room for the fill and for information; strength and depth need not be among the legal ones.
-#[derive(Clone, Copy)]
+#[derive(Clone, Copy, Debug, PartialEq, Eq)]
 pub struct Words {
     pub code: Code,
     ghost some: { 1 ≤ code.strength },

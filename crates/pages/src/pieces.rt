@@ -4,22 +4,22 @@ use refusals::{Code, Refusal, WordRefusal};
 use std::fmt;
 
 // Octets as they are.
-#[derive(Clone, Copy)]
+#[derive(Clone, Copy, Debug, PartialEq, Eq)]
 pub struct Octets<'a>(pub &'a [u8]);
 
 // Octets as numbers.
-#[derive(Clone, Copy)]
+#[derive(Clone, Copy, Debug, PartialEq, Eq)]
 pub struct Numbers<'a>(pub &'a [u8]);
 
 // A short buffer whole; a long one by its length and a sum of its octets.
-#[derive(Clone, Copy)]
+#[derive(Clone, Copy, Debug, PartialEq, Eq)]
 pub struct Buffer<'a>(pub &'a [u8]);
 
-#[derive(Clone, Copy)]
+#[derive(Clone, Copy, Debug, PartialEq, Eq)]
 pub struct Coded(pub Code);
 
 // Zero counts where there is none.
-#[derive(Clone, Copy)]
+#[derive(Clone, Copy, Debug, PartialEq, Eq)]
 pub struct Decoded(pub Result<Decoding, WordRefusal>);
 
 impl<'a> fmt::Display for Octets<'a> {

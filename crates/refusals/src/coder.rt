@@ -14,7 +14,7 @@ fn rate_legal(rate: u32) -> bool
     matches!(rate, 1 | 2 | 3 | 4 | 5)
 }
 
-// Cases and no list of rates: they are those of `period` in specs/Sizes, and a list would be copied at each call.
+// Cases over C's number, those of `period` in specs/Sizes: a list would be read at rate - 1. The coder has its own, which it reads once in a call.
 fn period_of(rate: u32) -> u8
     requires { OneOf rates rate }
     ensures { result ≡ period rate }
@@ -53,9 +53,9 @@ fn symbols_of(rate: u32, place: u8, octets: usize) -> usize
     requires { OneOf rates rate × (place < period rate) × (octets ≤ 2044) }
     ensures { (result ≡ symbol_count rate place octets) × (result ≤ 32704) }
 {
-    let start = place as usize;
+    let start = usize::from(place);
     let bits = 8 * octets;
-    let period = period_of(rate) as usize;
+    let period = usize::from(period_of(rate));
     bits + ((start + bits).div_ceil(period) - start.div_ceil(period))
 }
 
@@ -73,7 +73,7 @@ pub fn convolve_parameters(
     if octets > 2044 {
         return Err(Parameter::Input);
     }
-    if symbols != (holds as usize + symbols_of(rate, place, octets)) / 8 {
+    if symbols != (usize::from(holds) + symbols_of(rate, place, octets)) / 8 {
         return Err(Parameter::Output);
     }
     Ok(())
@@ -89,7 +89,7 @@ pub fn coder_close_parameters(
     ensures { FirstOf (coder_close_order rate register place holds symbols) (verdict_number result) }
 {
     coder_parameters(rate, register, place, holds)?;
-    if symbols != (holds as usize + 7) / 8 {
+    if symbols != (usize::from(holds) + 7) / 8 {
         return Err(Parameter::Output);
     }
     Ok(())

@@ -93,8 +93,8 @@ fn filled(period: u8, state: State, octets: usize) -> usize
     requires { octets ≤ 5000 }
     ensures { (octets ≤ result) × (result ≤ 2 * octets + 31) }
 {
-    let mut symbols = state.holds as usize;
-    let mut place = state.place as usize;
+    let mut symbols = usize::from(state.holds);
+    let mut place = usize::from(state.place);
     for _ in 0..8 * octets {
         symbols += symbols_at(place);
         place = next(place, period);

@@ -13,7 +13,7 @@ fn times_round(power: u8, m: usize) -> usize
     requires { m ≤ 128 }
     ensures { result ≡ power * m % 255 }
 {
-    power as usize * m % 255
+    usize::from(power) * m % 255
 }
 
 // The m-th powers of the locators of 16 places, which are locators too. The bound is on m, not on a type: m is 1 here as well as the code's.
@@ -111,7 +111,7 @@ impl Located<'_> {
         let errors = self.errors_at(&row);
         let mut out = before;
         for (c, power) in row[..some].iter().enumerate() {
-            let place = self.len - 1 - *power as usize;
+            let place = self.len - 1 - usize::from(*power);
             out[place] = errors[c];
         }
         out

@@ -25,5 +25,5 @@ static INVERSES: [u8; 256] = [
 pub(crate) fn inverses(a: &[u8; 16]) -> [u8; 16]
     ensures { Filled (inverse_at a.now) 16 result 16 }
 {
-    array::from_fn(|i| INVERSES[a[i] as usize])
+    array::from_fn(|i| INVERSES[usize::from(a[i])])
 }
