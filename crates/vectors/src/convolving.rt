@@ -231,7 +231,7 @@ fn size(y: u32) -> usize {
 }
 
 // Calls one after another until the input is at its end, and the close. No input here takes more than 64 calls; the close would be missing
-// if one did.
+// if one did. Two lists are cut at places that the state tells, which no iterator of std does: so the places are counted.
 fn cut(rt: &impl Print, rate: u32, period: u8, input: &[u8], symbols: &mut [u8]) -> io::Result<()>
     requires { length input.now ≤ 5000 }
 {

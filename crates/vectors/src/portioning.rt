@@ -7,7 +7,8 @@ use pages::{Buffer, Words, encode, fill, turn};
 use refusals::Code;
 use std::io;
 
-// Portions of 0 to 300 octets. No frame here has more than 64 of them; the close would be refused if one had.
+// Portions of 0 to 300 octets. No frame here has more than 64 of them; the close would be refused if one had. Two lists
+// are cut at drawn places, which no iterator of std does: so the place is counted.
 fn portions(
     rt: &impl Print,
     code: Code,
