@@ -20,6 +20,7 @@ impl FeedbackRows for [u8; 256] {
 
     fn added_to(&self, feedback: u8, row: [u8; 32]) -> [u8; 32] {
         let mut sum = row;
+        // By the bit's number, which is the row's too.
         for bit in 0..8 {
             // In two steps: the borrow checker does not cover `sum = with_bit(.., sum)`.
             let more = with_bit(self, feedback, bit, sum);

@@ -40,6 +40,7 @@ pub fn table_of(rows: &[u8; 256]) -> [u8; 8192]
     ensures { SumTable rows.now result }
 {
     let mut table = [0u8; 8192];
+    // By the bit's number: it tells how many rows there are so far.
     for bit in 0..8 {
         double(&mut table, 1 << bit, bit_row(rows, 7 - bit));
     }

@@ -43,6 +43,7 @@ fn word(block: &mut [u8], depth: u32, w: u32, symbols: u32, wrong: u32, seed: u3
 {
     let mut x = seed;
     let mut left = wrong;
+    // By the symbol's number, which with the word's tells the octet.
     for k in 0..symbols {
         let choice = turn(x);
         x = turn(choice);

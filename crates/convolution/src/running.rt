@@ -53,6 +53,7 @@ fn groups_in(pattern: &Pattern, octets: &[u8], symbols: &mut [u8], start: Flow) 
     at.flow
 }
 
+// Three ways, told apart once in a call by what the call was given: a closure or a type parameter would have to be chosen in the same place.
 fn all_in(pattern: &Pattern, octets: &[u8], symbols: &mut [u8], start: Flow) -> Flow
     requires { Sound pattern.now.rate start × (length (stream pattern.now.rate start (bits_of octets.now)) / 8 ≤ length symbols.old) }
     ensures { Run pattern.now.rate start (bits_of octets.now) result symbols.new }

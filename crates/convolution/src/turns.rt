@@ -8,7 +8,7 @@ use crate::sums::{G1, G2};
 use crate::writing::{behind_held, kept, write_group, write_ready};
 use crate::{Flow, Group, Progress};
 
-// The register with octets below it.
+// The register with octets below it, in 64 bits: with 64 bits for one octet too, rate 1/2 takes longer (docs/DECISIONS.md).
 fn window_of(register: u32, octets: &[u8]) -> u64
     requires { (register < 64) × (length octets.now ≤ 7) }
     ensures { (result / 2 ^ (8 * length octets.now) ≡ register) × (low_bits (8 * length octets.now) result ≡ bits_of octets.now) }

@@ -12,6 +12,7 @@ pub(crate) fn walk(symbols: &[u8], rows: &[[u8; 64]; 256], register: u8, data: &
     ensures { (result < 64) × Walked (bits_of symbols.now) register «data».old «data».new result }
 {
     let mut at = register;
+    // `data` by the octet's number: what `iter_mut().zip` leaves is unknown to a proof.
     for (i, row) in rows[..symbols.len() / 2].iter().enumerate() {
         let octet = row[turned(at)];
         data[i] = octet;

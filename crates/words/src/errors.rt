@@ -110,6 +110,7 @@ impl Located<'_> {
         let row = row_from(powers, first);
         let errors = self.errors_at(&row);
         let mut out = before;
+        // A root's power tells the place, its number the error.
         for (c, power) in row[..some].iter().enumerate() {
             let place = self.len - 1 - usize::from(*power);
             out[place] = errors[c];

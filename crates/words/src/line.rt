@@ -10,6 +10,7 @@ pub(crate) fn conventional(sent: &[u8]) -> [u8; 255]
     ensures { Filled (conventional_at sent.now) 255 result (length sent.now) }
 {
     let mut out: [u8; 255] = [0; 255];
+    // `out` by the number: what `iter_mut().zip` leaves is unknown to a proof.
     for (i, symbol) in sent.iter().enumerate() {
         out[i] = field::to_conventional(*symbol);
     }

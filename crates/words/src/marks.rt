@@ -22,6 +22,7 @@ fn changed(s: &[u8], gamma: &[u8]) -> [u8; 32]
     ensures { Filled (windowed s.now gamma.now) 32 result (length s.now + 1 - length gamma.now) }
 {
     let mut out: [u8; 32] = [0; 32];
+    // `out` by the number: what `iter_mut().zip` leaves is unknown to a proof.
     for (i, window) in s.windows(gamma.len()).enumerate() {
         out[i] = pair(gamma, window);
     }
