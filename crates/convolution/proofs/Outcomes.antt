@@ -18,7 +18,6 @@ use Rattle.refusals.proofs.Verdicts.{parameter_nonzero}
 use Rattle.convolution.specs.declared.State.{State}
 use Rattle.convolution.specs.Coder.{low_bits, first_octet, packed}
 use Rattle.convolution.specs.Outcome.{held_of, ConvolveOutcome, CloseOutcome}
-use Rattle.convolution.specs.Working.{Accepted}
 use Rattle.convolution.proofs.Bits.{low_length}
 use Rattle.convolution.proofs.Packing.{packed_short}
 
@@ -63,16 +62,6 @@ module _ (rate : ℕ) (s : State) (octets before : List ℕ) where
         count = λ none. absurd (parameter_nonzero p none);
         symbols = λ none. absurd (parameter_nonzero p none);
         state = λ none. absurd (parameter_nonzero p none);
-      }
-
-  pub done_outcome : (n : ℕ) (next : State) (after : List ℕ) → FirstOf (convolve_order rate s.register s.place s.holds (length octets) (length before)) 0 → Accepted rate s octets n next after → ConvolveOutcome rate s octets before (Ok n) next after
-  done_outcome n next after first done =
-      record {
-        number = first;
-        refused = λ some. absurd (some refl);
-        count = λ none. done.count;
-        symbols = λ none. done.symbols;
-        state = λ none. done.state;
       }
 
 module _ (rate : ℕ) (s : State) (before : List ℕ) where

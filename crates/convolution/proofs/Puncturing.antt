@@ -148,10 +148,6 @@ place_back p (suc q) h =
     let there : suc q ≡ p - suc (p - suc q - 1) = omega arith in
     there ∙ sym (ap (ahead p) here)
 
-pub ahead_some : (p place : ℕ) → (place ≡ 0 → ⊥) → p - place ≡ ahead p place
-ahead_some p zero n = absurd (n refl)
-ahead_some p (suc q) n = refl
-
 pub ahead_small : (p place : ℕ) → place < p → ahead p place < p
 ahead_small p zero h = h
 ahead_small p (suc q) h = omega arith

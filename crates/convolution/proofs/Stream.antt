@@ -46,12 +46,6 @@ octet_written symbols at held left more v h el ev =
 
 -- So none, one or two of them.
 module _ (before : List ℕ) (at held holds : ℕ) where
-  pub ready_none : holds < 8 → Ready before at held holds before
-  ready_none h =
-      let n : at + holds / 8 ≡ at = omega arith in
-      let m : holds % 8 ≡ holds = omega arith in
-      record { long = refl; same = ap₂ (λ (x y : ℕ). bits_of (take x before) ++ low_bits y held) n m }
-
   pub ready_one : (v : ℕ) → 8 ≤ holds → holds < 16 → at < length before → v ≡ held / 2 ^ (holds - 8) % 256 → Ready before at held holds (set before at v)
   ready_one v low high fits e =
       let n : at + holds / 8 ≡ at + 1 = omega arith in

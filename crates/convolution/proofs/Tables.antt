@@ -7,7 +7,7 @@ use native.Mathlib.Omega.{arith}
 use lib.Dec.{T, eqb, eqb→eq}
 use Rattle.field.proofs.Below.{both, both_left, both_right}
 use Rattle.refusals.specs.Order.{OneOf}
-use Rattle.refusals.specs.Sizes.{period, rates, symbol_count}
+use Rattle.refusals.specs.Sizes.{rates, symbol_count}
 use Rattle.convolution.proofs.Count.{each_rate}
 
 -- A test of two lists.
@@ -26,7 +26,3 @@ same_lists (x ∷ xs) (y ∷ ys) t = ap₂ ◌∷◌ (eqb→eq x y (both_left (e
 -- At most two symbols for each bit.
 pub symbols_most : (rate place n : ℕ) → OneOf rates rate → symbol_count rate place n ≤ 16 * n
 symbols_most rate place n = each_rate (λ r. symbol_count r place n ≤ 16 * n) (omega arith) (omega arith) (omega arith) (omega arith) (omega arith) rate
-
--- No period is longer than a row.
-pub period_most : (rate : ℕ) → OneOf rates rate → period rate ≤ 7
-period_most = each_rate (λ r. period r ≤ 7) (omega arith) (omega arith) (omega arith) (omega arith) (omega arith)

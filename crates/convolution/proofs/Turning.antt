@@ -1,6 +1,5 @@
 -- A call goes on by turns: a group of octets or one octet goes in, whole octets go out, and what is written with what is yet to be sent stays the same.
 use mathlib.Core.Path.{◌≡◌, refl, sym, ap, ap₂, ◌∙◌, subst}
-use mathlib.Core.Logic.{◌⊎◌, ⊎_elim}
 use mathlib.Core.List.{List, [], ◌∷◌, ◌++◌, append_assoc, append-nil}
 use Prim.Native.Nat.{ℕ, ◌+◌, ◌-◌, ◌*◌, ◌/◌, ◌%◌, ◌^◌, ◌≤◌, ◌<◌}
 use native.Mathlib.Nat.{mod-lt, mod-eq_of_lt, div-lt_iff_lt-mul}
@@ -58,12 +57,6 @@ module _ (octets : List ℕ) (k w octet : ℕ) (within : k < length octets) (sma
 
 -- ---- the held symbols go out first
 
-pub behind_none : (held holds symbols n : ℕ) → holds ≡ 0 → low_bits n symbols ++ low_bits holds symbols ≡ low_bits holds held ++ low_bits n symbols
-behind_none held holds symbols n e =
-    ap (λ (h : ℕ). low_bits n symbols ++ low_bits h symbols) e
-    ∙ append-nil (low_bits n symbols)
-    ∙ ap (λ (h : ℕ). low_bits h held ++ low_bits n symbols) (sym e)
-
 module _ (held holds symbols n : ℕ) (few : holds < 8) (some : 8 ≤ n) (most : n ≤ 64) (small : symbols < 2 ^ n) where
   abbrev rest : ℕ
   rest = symbols / 2 ^ holds
@@ -87,13 +80,7 @@ module _ (held holds symbols n : ℕ) (few : holds < 8) (some : 8 ≤ n) (most :
       ∙ append_assoc (low_bits holds held) (low_bits (n - holds) rest) (low_bits holds symbols)
       ∙ ap (λ (l : List ℕ). low_bits holds held ++ l) (sym (low_split (n - holds) holds symbols) ∙ ap (λ (m : ℕ). low_bits m symbols) all)
 
-pub put_same : (before after : List ℕ) (at number n m : ℕ) → n ≡ m → Put before at number m after → Put before at number n after
-put_same before after at number n m e = subst (λ (k : ℕ). Put before at number k after) (sym e)
-
 -- ---- a group goes in
-
-pub six_or_eight : (n : ℕ) → (n ≡ 6) ⊎ (n ≡ 8) → (6 ≤ n) × (n ≤ 8)
-six_or_eight n = ⊎_elim (λ e. (omega arith, omega arith)) (λ e. (omega arith, omega arith))
 
 module _ (rate : ℕ) (octets before : List ℕ) (p : Progress) (g : Group) (grouped : Grouped rate g) (under : Underway rate octets before p) (first-place : p.flow.place ≡ 0) (within : p.read + g.octets ≤ length octets)
     (w x y v : ℕ)
@@ -245,9 +232,6 @@ pub record Going (rate : ℕ) (octets before : List ℕ) (start : Flow) (symbols
   pub fits : p.written ≤ length symbols
 
 module _ (rate : ℕ) (octets before : List ℕ) (start : Flow) where
-  pub going_first : Sound rate start → Going rate octets before start before (record { flow = start; read = 0; written = 0 })
-  going_first sound = record { long = refl; same = refl; register = refl; place = refl; sound = sound; within = omega arith; fits = omega arith }
-
   module _ (symbols : List ℕ) (p : Progress) (going : Going rate octets before start symbols p) where
     pub going_underway : length (stream rate start (bits_of octets)) / 8 ≤ length before → Underway rate octets symbols p
     going_underway enough = record { sound = going.sound; fits = going.fits; room = omega (arith, enough, going.long, ap length going.same) }

@@ -276,3 +276,19 @@ close_settled e i q state before v w s t a b A B =
 -- what is stated as an equation
 pub start_settled : (s t : Progress) → s ≡ none_taken → t ≡ none_taken → s ≡ t
 start_settled s t a b = a ∙ sym b
+
+-- what is read of a state's rows is settled, and what is put there; each gives back the other
+abbrev pub holding : Progress → List (List ℕ) → Progress
+holding state lists = record { place = state.place; closed = state.closed; rows = lists }
+
+pub octet_rows_settled : (state : Progress) (a b : List (List ℕ)) → a ≡ state.rows → b ≡ state.rows → a ≡ b
+octet_rows_settled state a b p q = p ∙ sym q
+
+pub held_rows_settled : (lists : List (List ℕ)) (a b : Progress) → a.rows ≡ lists → b.rows ≡ lists → a.rows ≡ b.rows
+held_rows_settled lists a b p q = p ∙ sym q
+
+pub held_octets : (state : Progress) (lists : List (List ℕ)) → (holding state lists).rows ≡ lists
+held_octets state lists = refl
+
+pub octets_held : (state : Progress) → holding state state.rows ≡ state
+octets_held state = refl

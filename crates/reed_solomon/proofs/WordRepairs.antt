@@ -40,6 +40,12 @@ strength_is e h = elim (ℕ_discrete e 8) [
 pub fits : (g : Given) → Fitting g.strength g.depth g.fill g.allowance g.block.now
 fits g = record { strength = strength_is g.strength g.strong; allowance = g.allowed; some = g.some; deep = g.deep; filled = g.filled; received = g.received }
 
+pub short : (g : Given) → length g.block.now ≤ 2040
+short g = omega (arith, g.received, mul-le-mul (most g.fill) g.deep)
+  where
+    most : (q : ℕ) → 255 - q ≤ 255
+    most q = omega arith
+
 -- ---- symbols of a repaired word
 
 pub repaired-at : (sent errors : List ℕ) (k : ℕ) → k < length sent → length sent ≤ length errors → get_or (repaired sent errors) k 0 ≡ get_or sent k 0 ⊕ get_or errors k 0

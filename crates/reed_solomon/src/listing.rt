@@ -49,6 +49,7 @@ fn put_run(
         return entries;
     }
     let mut listed = entries;
+    // By the octet's number, which its entry tells.
     for at in from..end {
         listed = put_change(at, block[at], mended[at], listed, list);
     }
@@ -73,6 +74,7 @@ pub(crate) fn put_changes(block: &[u8], mended: &[u8], list: &mut [u8]) -> u32
     let mut entries = 0usize;
     let mut at = 0usize;
     let n = block.len();
+    // A run ends at the block's end too: `step_by` would have to be told the same, and needs a measure as well.
     while at < n {
         let end = run_end(at, n);
         entries = put_run(block, mended, at, end, entries, list);

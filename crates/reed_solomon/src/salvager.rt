@@ -6,10 +6,8 @@ ghost use Rattle.reed_solomon.specs.Salvaging.{marks_of, repairs_of, entries_of,
 ghost use Rattle.reed_solomon.specs.SalvageWorking.{WordPut, WordsPut, MarksSet};
 
 use crate::SalvageReport;
-use crate::given::{Given, word_errors};
+use crate::given::Given;
 use crate::listing::put_changes;
-use crate::recoding::{front_rows, has_checks};
-use crate::symbols::put_repaired;
 use octets::copy_front;
 use refusals::{Code, Parameter};
 
@@ -20,32 +18,6 @@ struct WordSalvage {
     count: u8,
 }
 
-// Word w with its errors added, checks and all: a word for which no codeword is found has no errors, and so stays as received.
-fn salvage_word(
-    given: &Given<'_>,
-    w: usize,
-    row: &[u8; 32],
-    mended: &mut [u8],
-) -> WordSalvage
-    requires { (2040 ≤ length mended.old) × (w < given.now.depth) × CodedBy given.now.strength given.now.depth given.now.fill given.now.block.now w row.now }
-    ensures { WordPut given.now.strength given.now.depth given.now.fill given.now.allowance given.now.block.now w mended.old result.mark result.count mended.new }
-{
-    let n = 255 - given.fill;
-    match word_errors(given, w, row) {
-        Some(found) => {
-            put_repaired(given.block, &found.errors, given.depth, w, n, mended);
-            WordSalvage {
-                mark: 1,
-                count: found.count as u8,
-            }
-        }
-        None => {
-            put_repaired(given.block, &[0; 255], given.depth, w, n, mended);
-            WordSalvage { mark: 0, count: 0 }
-        }
-    }
-}
-
 // Which words are repaired, and their counts.
 #[derive(Clone, Copy)]
 struct WordsSalvage {
@@ -53,18 +25,42 @@ struct WordsSalvage {
     counts: [u8; 8],
 }
 
-fn salvage_words(given: &Given<'_>, rows: &[[u8; 32]; 8], mended: &mut [u8]) -> WordsSalvage
-    requires { (2040 ≤ length mended.old) × WordRows given.now.strength given.now.depth given.now.fill given.now.block.now rows.now }
-    ensures { WordsPut given.now.strength given.now.depth given.now.fill given.now.allowance given.now.block.now given.now.depth result.marks result.counts mended.new × (length mended.new ≡ length mended.old) }
-{
-    let mut marks = [0u8; 8];
-    let mut counts = [0u8; 8];
-    for w in 0..given.depth {
-        let word = salvage_word(given, w, &rows[w], mended);
-        marks[w] = word.mark;
-        counts[w] = word.count;
+impl Given<'_> {
+    // Word w with its errors added, checks and all: a word for which no codeword is found has no errors, and so stays as received.
+    fn salvage_word(&self, w: usize, row: &[u8; 32], mended: &mut [u8]) -> WordSalvage
+        requires { (2040 ≤ length mended.old) × (w < self.now.depth) × CodedBy self.now.strength self.now.depth self.now.fill self.now.block.now w row.now }
+        ensures { WordPut self.now.strength self.now.depth self.now.fill self.now.allowance self.now.block.now w mended.old result.mark result.count mended.new }
+    {
+        let sent = 255 - self.fill;
+        match self.word_errors(w, row) {
+            Some(found) => {
+                self.put_repaired(w, &found.errors, sent, mended);
+                WordSalvage {
+                    mark: 1,
+                    count: found.count as u8,
+                }
+            }
+            None => {
+                self.put_repaired(w, &[0; 255], sent, mended);
+                WordSalvage { mark: 0, count: 0 }
+            }
+        }
     }
-    WordsSalvage { marks, counts }
+
+    fn salvage_words(&self, rows: &[[u8; 32]; 8], mended: &mut [u8]) -> WordsSalvage
+        requires { (2040 ≤ length mended.old) × WordRows self.now.strength self.now.depth self.now.fill self.now.block.now rows.now }
+        ensures { WordsPut self.now.strength self.now.depth self.now.fill self.now.allowance self.now.block.now self.now.depth result.marks result.counts mended.new × (length mended.new ≡ length mended.old) }
+    {
+        let mut marks = [0u8; 8];
+        let mut counts = [0u8; 8];
+        // By the word's number, by which its row, its mark and its count have their places.
+        for w in 0..self.depth {
+            let word = self.salvage_word(w, &rows[w], mended);
+            marks[w] = word.mark;
+            counts[w] = word.count;
+        }
+        WordsSalvage { marks, counts }
+    }
 }
 
 fn all_marked(depth: usize) -> [u8; 8]
@@ -86,32 +82,30 @@ pub fn salvage(
 ) -> Result<SalvageReport, Parameter>
     ensures { SalvageOutcome code.strength code.depth code.fill s block.now frame.old list.old (verdict_of result) (marks_of result) (repairs_of result) (entries_of result) frame.new list.new }
 {
-    let m = block.len();
     let n = frame.len();
-    refusals::salvage_parameters(code, s, m, n, list.len())?;
-    let depth = code.depth as usize;
-    let rows = front_rows(code.strength, depth, n, block);
-    if has_checks(&rows, depth, n, block) {
+    refusals::salvage_parameters(code, s, block.len(), n, list.len())?;
+    let given = Given {
+        strength: code.strength,
+        depth: code.depth as usize,
+        fill: code.fill as usize,
+        allowance: s,
+        block,
+    };
+    let rows = given.front_rows(n);
+    if given.has_checks(&rows, n) {
         copy_front(&block[..n], frame);
         // Every word is its own codeword: nothing differs, and nothing is listed.
-        let marks = all_marked(depth);
+        let marks = all_marked(given.depth);
         return Ok(SalvageReport {
             marks,
             counts: [0; 8],
             entries: 0,
         });
     }
-    let given = Given {
-        strength: code.strength,
-        depth,
-        fill: code.fill as usize,
-        allowance: s,
-        block,
-    };
     let mut mended = [0u8; 2040];
-    let WordsSalvage { marks, counts } = salvage_words(&given, &rows, &mut mended);
+    let WordsSalvage { marks, counts } = given.salvage_words(&rows, &mut mended);
     copy_front(&mended[..n], frame);
-    let entries = put_changes(block, &mended[..m], list);
+    let entries = put_changes(block, &mended[..block.len()], list);
     Ok(SalvageReport {
         marks,
         counts,

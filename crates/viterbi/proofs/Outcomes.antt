@@ -1,37 +1,21 @@
--- What the two ways out of `likeliest` leave: refused as checked, or the path, which is the best input.
+-- What the way out of `likeliest` that is not a refusal leaves: the path, which is the best input.
 use mathlib.Core.Path.{◌≡◌, refl, sym, ap, ◌∙◌}
 use mathlib.Core.List.{List}
 use Prim.Native.Nat.{ℕ, ◌+◌, ◌*◌}
 use native.Mathlib.Omega.{arith}
 use lib.ListN.{length, get_or}
 use Rattle.refusals.specs.Order.{FirstOf}
-use Rattle.refusals.specs.Numbers.{parameter_number}
 use Rattle.refusals.specs.Calls.{likeliest_order}
-use Rattle.refusals.specs.declared.Parameter.{Parameter}
-use Rattle.refusals.proofs.Verdicts.{parameter_nonzero}
 use Rattle.refusals.proofs.Legal.{accepted_likeliest}
 use Rattle.convolution.specs.Coder.{bits_of}
 use Rattle.convolution.proofs.Bits.{bits-length}
 use Rattle.viterbi.specs.Likeliest.{places, Best}
 use Rattle.viterbi.specs.Outcome.{LikeliestOutcome}
-use Rattle.std.specs.Prelude.{Ok, Err}
+use Rattle.std.specs.Prelude.{Ok}
 use Rattle.viterbi.specs.Working.{turned, to_go, path, ToGo, Walked}
 use Rattle.viterbi.proofs.Octets.{bits_of_lem}
 use Rattle.viterbi.proofs.Coding.{cost}
 use Rattle.viterbi.proofs.Optimal.{lower, path-cost, path-first}
-
-pub refused_as_checked : (register : ℕ) (received before : List ℕ) (p : Parameter) →
-    FirstOf (likeliest_order register (length received) (length before)) (parameter_number p) → LikeliestOutcome register received before (Err p) before
-refused_as_checked register received before p f =
-    record {
-      number = f;
-      refused = λ n. refl;
-      octets = λ z. absurd (parameter_nonzero p z);
-      long = λ z. refl;
-      best = λ z. absurd (parameter_nonzero p z);
-      differing = λ z. absurd (parameter_nonzero p z);
-      reached = λ z. absurd (parameter_nonzero p z);
-    }
 
 -- An input that is the path is the best, and differs in as many places as are to go.
 module _ (register : ℕ) (received input : List ℕ) (double : length received ≡ 2 * length input) (walked : bits_of input ≡ path (bits_of received) register) where

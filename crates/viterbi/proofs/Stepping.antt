@@ -25,9 +25,6 @@ pub record Filled (f : ℕ → ℕ) (n : ℕ) (list : List ℕ) : Type 0 where
   pub long : length list ≡ 64
   pub at : (place : ℕ) → place < n → get_or list place 0 ≡ f place
 
-pub filled_none : (f : ℕ → ℕ) (list : List ℕ) → length list ≡ 64 → Filled f 0 list
-filled_none f list l = record { long = l; at = λ place h. absurd (omega arith) }
-
 pub filled_more : (f : ℕ → ℕ) (n : ℕ) (list : List ℕ) (v : ℕ) → n < 64 → v ≡ f n → Filled f n list → Filled f (n + 1) (set list n v)
 filled_more f n list v h e d = record { long = simp length-set d.long; at = λ place l. at place l (ltb place n) refl }
   where

@@ -1,5 +1,5 @@
 -- Forward from octet to octet: the data so far are the beginning of the path, and lead to the register.
-use mathlib.Core.Path.{◌≡◌, refl, sym, ap, ap₂, ◌∙◌}
+use mathlib.Core.Path.{◌≡◌, sym, ap, ap₂, ◌∙◌}
 use mathlib.Core.List.{List, [], ◌∷◌, ◌++◌, append_assoc, append-nil}
 use Prim.Native.Nat.{ℕ, ◌+◌, ◌*◌, ◌/◌, ◌%◌, ◌<◌}
 use native.Mathlib.Nat.{mod-lt}
@@ -29,9 +29,6 @@ pub record Halfway (received : List ℕ) (start : ℕ) (list : List ℕ) (i at :
   pub register : at < 64
   pub walked : path received start ≡ bits_of (take i list) ++ path (drop (2 * (8 * i)) received) at
   pub reached : at ≡ register_after start (bits_of (take i list))
-
-pub halfway_none : (received : List ℕ) (start : ℕ) (list : List ℕ) → start < 64 → Halfway received start list 0 start
-halfway_none received start list h = record { octets = tt; register = h; walked = refl; reached = refl }
 
 pub halfway_more : (received : List ℕ) (start : ℕ) (list : List ℕ) (i at v : ℕ) → i < length list → Halfway received start list i at → Ahead received (8 * i) 8 at v →
     Halfway received start (set list i v) (i + 1) (v % 64)

@@ -10,9 +10,8 @@ mod walk;
 
 ghost use Rattle.viterbi.specs.Outcome.{LikeliestOutcome};
 
-pub use found::Likeliest;
-
 use back::rows_back;
+pub use found::Likeliest;
 use refusals::Parameter;
 use turning::turned;
 use walk::walk;

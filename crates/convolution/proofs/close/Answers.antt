@@ -5,9 +5,15 @@ use native.Mathlib.Omega.{arith}
 use lib.ListN.{length, take}
 use Rattle.convolution.specs.Coder.{low_bits, first_octet, packed}
 use Rattle.convolution.specs.Outcome.{held_of}
-use Rattle.convolution.proofs.Outcomes.{legal_close, close_done, closed_none, closed_some}
+use Rattle.std.proofs.lemmas.Result.{err_from_is_err_and}
+use Rattle.convolution.proofs.Outcomes.{legal_close, close_refused, close_done, closed_none, closed_some}
 use Rattle.convolution.proofs.close.Goals as goal
 use Rattle.convolution.proofs.close.Goals.{then-holds-gt0, else-holds-gt0}
+
+pub returns-in_err-coder_close_parameters : goal.returns-in_err-coder_close_parameters
+returns-in_err-coder_close_parameters c =
+    let p = err_from_is_err_and c.from_residual.result c.from_residual.ensures.1 in
+    rw (p.1, p.2) (close_refused c.args.rate c.args.state c.args.symbols.now _ c.in_err-coder_close_parameters.ensures)
 
 pub returns : goal.returns
 returns c =

@@ -1,26 +1,14 @@
 -- `likeliest` refuses as its check does, or walks the path.
 use mathlib.Core.Path.{ap}
-use mathlib.Core.List.{List}
 use Prim.Native.Nat.{ℕ}
 use native.Mathlib.Omega.{arith}
-use lib.ListN.{get_or, replicate, length-replicate}
-use Rattle.std.proofs.lemmas.Result.{err_from_is_err_and}
+use lib.ListN.{get_or}
 use Rattle.refusals.proofs.Legal.{accepted_likeliest}
 use Rattle.convolution.specs.Coder.{bits_of}
 use Rattle.convolution.proofs.Bits.{bits-length}
 use Rattle.viterbi.proofs.Spread.{to_go_most}
-use Rattle.viterbi.proofs.Outcomes.{refused_as_checked, path_found}
+use Rattle.viterbi.proofs.Outcomes.{path_found}
 use Rattle.viterbi.proofs.likeliest.Goals as goal
-
-pub returns-in_err-likeliest_parameters : goal.returns-in_err-likeliest_parameters
-returns-in_err-likeliest_parameters c =
-    let p = err_from_is_err_and c.from_residual.result c.from_residual.ensures.1 in
-    rw (p.1, p.2) (refused_as_checked c.args.register c.args.symbols.now c.args.«data».now _ c.in_err-likeliest_parameters.ensures)
-
-pub rows_back-start-requires : goal.rows_back-start-requires
-rows_back-start-requires c =
-    let l = accepted_likeliest _ _ _ c.in_ok-likeliest_parameters.ensures in
-    (l.limit, l.even, length-replicate {A = List ℕ} 256 (replicate 64 0))
 
 pub overflow_add-places : goal.overflow_add-places
 overflow_add-places c =

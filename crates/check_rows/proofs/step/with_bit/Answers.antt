@@ -1,7 +1,7 @@
 -- `with_bit` adds the row of one bit through a mask that is zero where the bit is clear.
 use Rattle.std.proofs.Common.{rules, arith, refl, ◌∙◌, ◌+◌, ◌*◌, ◌-◌, ◌/◌, ◌^◌, get_or}
 use lib.Bits.{bit_and, bit_xor}
-use Rattle.check_rows.proofs.Made.{made_at}
+use Rattle.octets.proofs.Made.{made_at}
 use Rattle.check_rows.proofs.Steps.{added_masked}
 use Rattle.check_rows.proofs.step.with_bit.Goals as goal
 

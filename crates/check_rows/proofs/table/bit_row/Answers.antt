@@ -1,6 +1,6 @@
 -- `bit_row` copies one octet after another.
 use Rattle.std.proofs.Common.{rules, arith, ◌+◌, ◌*◌, get_or}
-use Rattle.check_rows.proofs.Made.{made_at}
+use Rattle.octets.proofs.Made.{made_at}
 use Rattle.check_rows.proofs.table.bit_row.Goals as goal
 
 pub returns : goal.returns

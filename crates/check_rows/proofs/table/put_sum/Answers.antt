@@ -4,7 +4,7 @@ use lib.Bits.{bit_xor}
 use Rattle.field.specs.Field.{◌⊕◌}
 use Rattle.field.proofs.Sum.{⊕_is}
 use Rattle.std.proofs.lemmas.Slice.{overwrites}
-use Rattle.check_rows.proofs.Made.{made_at}
+use Rattle.octets.proofs.Made.{made_at}
 use Rattle.check_rows.proofs.Tables.{sum_put}
 use Rattle.check_rows.proofs.table.put_sum.Goals as goal
 

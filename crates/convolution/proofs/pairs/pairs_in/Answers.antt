@@ -1,6 +1,6 @@
 -- `pairs_in` meets its contract. The loop's invariant: the octets so far are paired, and the register is the one behind them.
 use mathlib.Core.List.{List}
-use mathlib.Core.Path.{◌≡◌, refl, sym, ap, ◌∙◌, subst}
+use mathlib.Core.Path.{◌≡◌, sym, ap, ◌∙◌, subst}
 use Prim.Native.Nat.{ℕ}
 use native.Mathlib.Omega.{arith}
 use lib.ListN.{length, take}
@@ -8,9 +8,6 @@ use lib.Seq.{take-length}
 use Rattle.convolution.specs.Coder.{bits_of, register_after}
 use Rattle.convolution.proofs.Pairing.{Paired, paired_next, register_last, all_paired}
 use Rattle.convolution.proofs.pairs.pairs_in.Goals as goal
-
-pub loop-i-init : goal.loop-i-init
-loop-i-init c = (c.requires.0.register, refl, refl, refl)
 
 pub loop-i-preserved : goal.loop-i-preserved
 loop-i-preserved c =

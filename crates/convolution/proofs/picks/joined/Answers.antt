@@ -2,13 +2,9 @@
 use mathlib.Core.Path.{ap, ◌∙◌}
 use Prim.Native.Nat.{ℕ, ◌+◌, ◌*◌, ◌%◌, ◌^◌}
 use native.Mathlib.Omega.{arith}
-use lib.Pow.{pow_pos}
 use Rattle.convolution.specs.Coder.{low_bits}
-use Rattle.convolution.proofs.Puncturing.{one_up, lowest_masked, fits_below, joined-below}
+use Rattle.convolution.proofs.Puncturing.{lowest_masked, fits_below, joined-below}
 use Rattle.convolution.proofs.picks.joined.Goals as goal
-
-pub overflow_sub-result : goal.overflow_sub-result
-overflow_sub-result c = omega (arith, one_up c.args.n c.requires, pow_pos c.args.n)
 
 pub overflow_add-result : goal.overflow_add-result
 overflow_add-result c =

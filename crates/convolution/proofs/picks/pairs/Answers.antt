@@ -5,17 +5,8 @@ use Prim.Native.Nat.{ℕ, ◌+◌, ◌*◌}
 use native.Mathlib.Omega.{arith}
 use Rattle.convolution.specs.Coder.{low_bits}
 use Rattle.convolution.specs.Working.{picked_from}
-use Rattle.convolution.proofs.Spreading.{pairs_joined, spread_small}
+use Rattle.convolution.proofs.Spreading.{pairs_joined}
 use Rattle.convolution.proofs.picks.pairs.Goals as goal
-
-pub overflow_mul-result-2 : goal.overflow_mul-result-2
-overflow_mul-result-2 c = omega (arith, c.spread.ensures, spread_small 8 c.args.first)
-
-pub overflow_add-result : goal.overflow_add-result
-overflow_add-result c = omega (arith, c.spread.ensures, spread_small 8 c.args.first, c.spread-2.ensures, spread_small 8 c.args.second)
-
-pub overflow_add-result-2 : goal.overflow_add-result-2
-overflow_add-result-2 c = omega (arith, c.spread.ensures, spread_small 8 c.args.first, c.spread-2.ensures, spread_small 8 c.args.second)
 
 pub returns : goal.returns
 returns c =

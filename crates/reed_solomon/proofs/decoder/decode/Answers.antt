@@ -11,7 +11,7 @@ returns-in_err-decode_parameters c =
     rw (p.1, p.2) (refuses_parameter _ _ _ _ _ _ _ c.in_err-decode_parameters.ensures)
 
 pub has_checks-requires : goal.has_checks-requires
-has_checks-requires c = coded_room _ _ _ _ _ _ c.in_ok-decode_parameters.ensures
+has_checks-requires c = let room = coded_room _ _ _ _ _ _ c.in_ok-decode_parameters.ensures in (room.2, room.3)
 
 pub returns-then-has_checks : goal.returns-then-has_checks
 returns-then-has_checks c =

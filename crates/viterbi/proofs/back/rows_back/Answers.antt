@@ -11,10 +11,6 @@ use Rattle.viterbi.proofs.back.rows_back.Goals as goal
 pub loop-i-init : goal.loop-i-init
 loop-i-init c = (omega arith, search rules, none_to_go c.args.symbols.now c.requires.1, below-zeros _, rows_end _ _ _)
 
-pub octet_back-front-requires : goal.octet_back-front-requires
-octet_back-front-requires c =
-    (c.requires.0, omega arith, c.loop-i.invariant.3)
-
 pub lowered-costs-requires : goal.lowered-costs-requires
 lowered-costs-requires c =
     let s = c.args.symbols.now in

@@ -1,30 +1,8 @@
 -- `bit_back` sets two registers in each turn, by one listed cost.
-use mathlib.Core.Path.{refl, ◌∙◌}
-use Prim.Native.Nat.{◌+◌}
+use mathlib.Core.Path.{◌∙◌}
 use native.Mathlib.Omega.{arith}
-use Rattle.viterbi.proofs.Stepping.{filled_none, filled-two, even_cost, odd_cost, even_way, odd_way, all_earlier}
+use Rattle.viterbi.proofs.Stepping.{filled-two, even_cost, odd_cost, even_way, odd_way, all_earlier}
 use Rattle.viterbi.proofs.steps.bit_back.Goals as goal
-
-pub loop-k-init : goal.loop-k-init
-loop-k-init c = (omega arith, filled_none _ _ refl, filled_none _ _ refl)
-
-pub overflow_add-one_way-in-loop-k : goal.overflow_add-one_way-in-loop-k
-overflow_add-one_way-in-loop-k c = omega (arith, c.requires.3.at (c.loop-k.k + 32) (omega arith))
-
-pub overflow_sub-y : goal.overflow_sub-y
-overflow_sub-y c = omega (arith, c.cost_at-x.ensures.most)
-
-pub overflow_add-even_zero : goal.overflow_add-even_zero
-overflow_add-even_zero c = omega (arith, c.cost_at-x.ensures.most, c.requires.2.at c.loop-k.k (omega arith))
-
-pub overflow_add-even_one : goal.overflow_add-even_one
-overflow_add-even_one c = omega (arith, c.cost_at-x.ensures.most, c.requires.2.at (c.loop-k.k + 32) (omega arith))
-
-pub overflow_add-odd_zero : goal.overflow_add-odd_zero
-overflow_add-odd_zero c = omega (arith, c.cost_at-x.ensures.most, c.requires.2.at c.loop-k.k (omega arith))
-
-pub overflow_add-odd_one : goal.overflow_add-odd_one
-overflow_add-odd_one c = omega (arith, c.cost_at-x.ensures.most, c.requires.2.at (c.loop-k.k + 32) (omega arith))
 
 pub loop-k-preserved : goal.loop-k-preserved
 loop-k-preserved c =

@@ -1,16 +1,12 @@
 -- `walk` goes one octet further in each turn.
-use mathlib.Core.Path.{refl}
 use native.Mathlib.Omega.{arith}
 use mathlib.Core.List.{[]}
 use mathlib.Core.Path.{◌≡◌}
 use Prim.Native.Nat.{◌/◌, ◌<◌}
 use lib.ListN.{length, get_or, length-set}
 use Rattle.std.proofs.lemmas.List.{get_or-take, length-take}
-use Rattle.viterbi.proofs.Walking.{halfway_none, halfway_more, ahead-at, whole_way}
+use Rattle.viterbi.proofs.Walking.{halfway_more, ahead-at, whole_way}
 use Rattle.viterbi.proofs.walk.walk.Goals as goal
-
-pub loop-i-init : goal.loop-i-init
-loop-i-init c = (refl, halfway_none _ _ _ c.requires.2)
 
 pub loop-i-preserved : goal.loop-i-preserved
 loop-i-preserved c =
@@ -20,9 +16,6 @@ loop-i-preserved c =
     let inside : l.i < n = omega (arith, length-take n rows) in
     let octet = ahead-at _ (get_or rows l.i []) _ _ _ c.turned.ensures.0 (c.requires.3.at l.i (omega arith) inside l.at l.invariant.1.register) in
     (simp length-set l.invariant.0, rw (get_or-take n rows l.i [] inside) (halfway_more _ _ _ _ _ _ (omega arith) l.invariant.1 octet))
-
-pub shape_of-data : goal.shape_of-data
-shape_of-data c = c.loop-i.invariant.0
 
 pub returns : goal.returns
 returns c =

@@ -2,7 +2,7 @@
 use Rattle.std.proofs.Common.{rules, arith, sym, ◌∙◌, ◌+◌, ◌*◌, get_or}
 use lib.Bits.{bit_xor}
 use Rattle.field.proofs.Sum.{⊕_is}
-use Rattle.check_rows.proofs.Made.{made_at}
+use Rattle.octets.proofs.Made.{made_at}
 use Rattle.check_rows.proofs.step.ArrayU88192FeedbackRows.added_to.Goals as goal
 
 pub returns : goal.returns

@@ -1,5 +1,4 @@
 -- `one_in` meets its contract, by the law of an octet that goes in.
-use native.Mathlib.Omega.{arith}
 use Rattle.convolution.proofs.Turning.{octet_room, octet_turned}
 use Rattle.convolution.proofs.patterns.Pattern.one_in.Goals as goal
 
@@ -7,11 +6,6 @@ pub write_ready-requires : goal.write_ready-requires
 write_ready-requires c =
     let full = c.octet_in-full in
     (full.ensures.holds, octet_room c.args.self.now.rate c.args.octets.now c.args.symbols.now c.args.at c.requires.0 c.requires.1 full.result full.ensures)
-
-pub overflow_add-result-2 : goal.overflow_add-result-2
-overflow_add-result-2 c =
-    let full = c.octet_in-full in
-    omega (arith, octet_room c.args.self.now.rate c.args.octets.now c.args.symbols.now c.args.at c.requires.0 c.requires.1 full.result full.ensures)
 
 pub returns : goal.returns
 returns c =

@@ -19,14 +19,6 @@ loop-s-init c =
       starts_ahead c.args.self.now.rate c.args.self.now.period c.args.self.now.c1 c.args.self.now.rows s.place c.args.first c.requires.0 a c.to_period.ensures,
     )
 
-pub period_begun-s-requires : goal.period_begun-s-requires
-period_begun-s-requires c =
-    let i = c.loop-s.invariant in
-    (some_period c.args.self.now.rate c.args.self.now.period c.args.self.now.c1 c.args.self.now.rows, c.loop-s-test.true, i.0, omega (arith, i.2))
-
-pub loop-s-smaller : goal.loop-s-smaller
-loop-s-smaller c = omega (arith, c.period_begun-s.ensures.left)
-
 pub loop-s-preserved : goal.loop-s-preserved
 loop-s-preserved c =
     let i = c.loop-s.invariant in
@@ -40,15 +32,6 @@ loop-s-preserved c =
       begun_turn period s c.period_begun-s.result both c.args.second begun ∙ i.3,
       begun_ahead period s c.period_begun-s.result both c.args.second begun ∙ i.4,
     )
-
-pub to_period-requires-2 : goal.to_period-requires-2
-to_period-requires-2 c = omega (arith, c.loop-s.invariant.1)
-
-pub joined-requires : goal.joined-requires
-joined-requires c = c.loop-s.invariant.0
-
-pub overflow_add-result : goal.overflow_add-result
-overflow_add-result c = omega (arith, c.loop-s.invariant.2)
 
 pub returns : goal.returns
 returns c =
