@@ -9,6 +9,7 @@ use crate::picks::pairs;
 use crate::sums::{G1, G2};
 
 // The register with the octet below it.
+// The register is a plain number here, in `put_pair` and in a group's window: a type of its own for six bits would be unwrapped in each.
 fn window_of(register: u32, octet: u8) -> u32
     requires { register < 64 }
     ensures { result ≡ register * 256 + octet }

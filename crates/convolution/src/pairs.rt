@@ -1,4 +1,5 @@
-// Rate 1/2: each octet gives two, in a loop without a choice in each turn, as its octets are too quick for one.
+// Rate 1/2: each octet gives two, in a loop without a choice in each turn, as its octets are too quick for one. Octets, symbols and a state come
+// together in each call, and no struct has them: a struct that holds what is lent to be written would be lent itself in each turn.
 ghost use Rattle.std.specs.Prelude.{◌≡◌, ◌+◌, ◌*◌, ◌/◌, ◌≤◌, ◌<◌, length};
 ghost use Rattle.convolution.specs.Coder.{bits_of};
 ghost use Rattle.convolution.specs.Working.{stream, Sound, Run};

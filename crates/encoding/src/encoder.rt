@@ -21,7 +21,8 @@ fn entered<R: FeedbackRows>(source: &R, row: [u8; 32], symbol: u8) -> [u8; 32]
     stepped(source, row, symbol)
 }
 
-// The symbols enter in turn, whole frame or portion, the first of them the row of word `first`.
+// The symbols enter in turn, whole frame or portion, the first of them the row of word `first`. The rows are lent, and a struct of
+// the three would be taken apart in each turn.
 fn enter_by<R: FeedbackRows>(source: &R, rows: &mut [[u8; 32]; 8], first: Turn, symbols: &[u8])
     ensures { RowsBy (R.adds source.now) first.depth first.word rows.old symbols.now rows.new }
 {

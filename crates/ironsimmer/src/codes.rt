@@ -11,6 +11,7 @@ pub(crate) fn code_of<R: Refusal + Copy>(refusal: R) -> u64
     u64::from(refusal.number()) + 256 * u64::from(refusal.value())
 }
 
+// The numbers that C has for them; the marker has none.
 pub(crate) fn form_number(form: Form) -> u32
     ensures { result ≡ form_number form }
 {

@@ -1,5 +1,6 @@
 // The C interface: each call hands its arguments to the call beneath and gives that call's answer as one number, which has the refusal's
 // number in its lowest eight bits, 0 if accepted, and above them the refusal's value. include/ironsimmer.h says the same to C.
+// Strength, depth, fill and allowance come one by one, as C gives them.
 #![tactic(auto)]
 
 mod coder;

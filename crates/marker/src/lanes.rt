@@ -52,7 +52,7 @@ impl<'a> Hunt<'a> {
         a & b & c & d & TOPS == TOPS
     }
 
-    // By fours: how far no place fits as the 24 bits tell.
+    // By fours: how far no place fits as the 24 bits tell. Where octets begin and end is what each of these calls is asked, and `Hunt` does not know it.
     fn passed(&self, table: &OctetTable, first: usize, end: usize) -> usize
         requires { (first ≤ end) × (end + 4 ≤ length self.now.stream.now) }
         ensures { (first ≤ result) × (result ≤ end) × NoneFits self.now.tolerance self.now.stream.now (8 * first) (8 * result) }

@@ -132,6 +132,7 @@ impl OctetTable {
     // Built in each call: 768 constants would be stored one by one.
     pub(crate) fn new() -> OctetTable {
         let mut sums = [0u64; 768];
+        // By the row's number, which tells the two halves that the row adds: it is not only a place in the table.
         for row in 0..48 {
             fill_row(&mut sums[16 * row..16 * row + 16], row);
         }

@@ -1,6 +1,5 @@
 -- The conditions of acceptance on encode and decode, of any outcome that their contracts permit, over all E, I, Q and s at once.
 use Rattle.reed_solomon.specs.Outcome.{Decoded, Delivered}
-use Rattle.std.specs.Prelude.{Ok, Err}
 use mathlib.Core.Path.{◌≡◌, sym, ap, ◌∙◌, subst}
 use mathlib.Core.Logic.{◌↔◌}
 use mathlib.Core.List.{List}

@@ -1,7 +1,7 @@
 -- What `decode` answers: refused for a parameter, refused for the lowest lost word, or delivered.
-use Rattle.reed_solomon.specs.Outcome.{Decoded, Delivered}
-use Rattle.std.specs.Prelude.{Ok, Err}
-use mathlib.Core.Path.{◌≡◌, refl, sym, ap, ◌∙◌, subst}
+use Rattle.reed_solomon.specs.Outcome.{Delivered}
+use Rattle.std.specs.Prelude.{Err}
+use mathlib.Core.Path.{◌≡◌, refl, sym, ap, ◌∙◌}
 use mathlib.Core.Logic.{inl, inr}
 use mathlib.Core.List.{List, []}
 use Prim.Native.Nat.{ℕ, ◌+◌, ◌-◌, ◌*◌, ◌≤◌, ◌<◌}
@@ -17,8 +17,6 @@ use Rattle.refusals.specs.Sizes.{strengths, information, frame_length, block_len
 use Rattle.refusals.specs.Numbers.{parameter_number}
 use Rattle.refusals.specs.Calls.{decode_parameters}
 use Rattle.refusals.specs.declared.Parameter.{Parameter}
-use Rattle.refusals.specs.Numbers.{Verdict}
-use Rattle.refusals.specs.declared.WordRefusal.{WordRefusal}
 use Rattle.refusals.specs.declared.WordRefusal.TheVariants.{Parameters, NoCodeword}
 use Rattle.refusals.proofs.Orders.{Clear, accepted_clear, not_different, first_passes}
 use Rattle.refusals.proofs.Verdicts.{parameter_nonzero, parameter_not_ten, stopped}
@@ -26,7 +24,7 @@ use Rattle.refusals.proofs.Legal.{LegalWords, legal_words, decode_numbers}
 use Rattle.words.proofs.Arrays.{zero-at}
 use Rattle.codewords.specs.Words.{Good, differing}
 use Rattle.codewords.proofs.LineWords.{differing_self}
-use Rattle.encoding.specs.Blocks.{sent_from, word_of, sum}
+use Rattle.encoding.specs.Blocks.{sent_from, word_of}
 use Rattle.encoding.specs.Rows.{no_rows, RowsOn}
 use Rattle.reed_solomon.specs.Outcome.{Delivery, LowestLost, DecodeOutcome}
 use Rattle.reed_solomon.specs.DecoderWorking.{Standing, WordRows, Fitting, Sofar}

@@ -1,6 +1,5 @@
 -- The five fakes of document 01 ("What acceptance looks for"): no outcome that the contracts permit is one of them.
 use Rattle.reed_solomon.specs.Outcome.{Decoded}
-use Rattle.std.specs.Prelude.{Ok, Err}
 use mathlib.Core.Path.{◌≡◌, refl, sym, ap₂, ◌∙◌, subst}
 use mathlib.Core.Logic.{◌≢◌}
 use mathlib.Core.List.{List, [], ◌∷◌}

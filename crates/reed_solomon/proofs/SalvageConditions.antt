@@ -1,7 +1,6 @@
 -- What any permitted outcome of salvage says, over all E, I, Q and s at once: each word stands alone, a larger allowance keeps what was repaired, all words
 -- together are decode, and the list tells all.
 use Rattle.reed_solomon.specs.Outcome.{Decoded, Delivered}
-use Rattle.std.specs.Prelude.{Ok, Err}
 use mathlib.Core.Path.{◌≡◌, refl, sym, ap, ◌∙◌, subst}
 use mathlib.Core.Logic.{◌↔◌, inl, inr}
 use mathlib.Core.List.{List, []}

@@ -12,7 +12,6 @@ use Rattle.refusals.specs.Order.{FirstOf}
 use Rattle.refusals.specs.Numbers.{parameter_number}
 use Rattle.refusals.specs.Calls.{decode_parameters, salvage_order}
 use Rattle.refusals.specs.declared.Parameter.{Parameter}
-use Rattle.refusals.specs.Numbers.{Verdict}
 use Rattle.std.specs.Prelude.{Ok, Err}
 use Rattle.refusals.proofs.Legal.{accepted_salvage}
 use Rattle.refusals.proofs.Verdicts.{parameter_nonzero}

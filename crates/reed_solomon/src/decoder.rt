@@ -23,11 +23,7 @@ impl Given<'_> {
     }
 
     // All words repaired into the frame, or the lowest that is lost.
-    fn repair_words(
-        &self,
-        rows: &[[u8; 32]; 8],
-        frame: &mut [u8],
-    ) -> Result<Decoding, WordRefusal>
+    fn repair_words(&self, rows: &[[u8; 32]; 8], frame: &mut [u8]) -> Result<Decoding, WordRefusal>
         requires { (2040 ≤ length frame.old) × WordRows self.now.strength self.now.depth self.now.fill self.now.block.now rows.now }
         ensures size { length frame.new ≡ length frame.old }
         ensures words { MatchResult result (λ d. Sofar self.now.strength self.now.depth self.now.fill self.now.allowance self.now.block.now frame.new d.counts d.total self.now.depth) (λ r. (w : ℕ) × (r ≡ NoCodeword w) × LowestLost self.now.strength self.now.depth self.now.fill self.now.allowance self.now.block.now w) }
@@ -47,12 +43,7 @@ impl Given<'_> {
 }
 
 // A block that is coded as it stands needs no look at its words one by one.
-pub fn decode(
-    code: Code,
-    s: u32,
-    block: &[u8],
-    frame: &mut [u8],
-) -> Result<Decoding, WordRefusal>
+pub fn decode(code: Code, s: u32, block: &[u8], frame: &mut [u8]) -> Result<Decoding, WordRefusal>
     ensures { DecodeOutcome code.strength code.depth code.fill s block.now frame.old (answer_of result) (counts_of result) (total_of result) frame.new }
 {
     let n = frame.len();

@@ -1,4 +1,5 @@
-// What each step of decode and of salvage is given: a block with its numbers, all legal.
+// What each step of decode and of salvage is given: a block with its numbers, all legal. A word's number and its row of checks come with each call by
+// themselves: a struct of them would be made for each word and taken apart in each step.
 ghost use Rattle.std.specs.Prelude.{◌≡◌, ◌≤◌, ◌<◌, IsTrue, ◌==◌, ◌||◌, length};
 ghost use Rattle.refusals.specs.Sizes.{information, block_length};
 

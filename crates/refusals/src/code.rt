@@ -52,6 +52,7 @@ impl Code {
         Ok(())
     }
 
+    // Of legal numbers only. No type of its own says that they are: each of the three is called right behind `check`, in the function that called it.
     pub(crate) fn frame_length(self) -> usize
         requires { FirstOf (word_parameters self.strength self.depth self.fill) 0 }
         ensures { result ≡ frame_length self.strength self.depth self.fill }

@@ -14,6 +14,7 @@ fn rate_legal(rate: u32) -> bool
     matches!(rate, 1 | 2 | 3 | 4 | 5)
 }
 
+// Cases and no list of rates: they are those of `period` in specs/Sizes, and a list would be copied at each call.
 fn period_of(rate: u32) -> u8
     requires { OneOf rates rate }
     ensures { result ≡ period rate }
@@ -27,7 +28,8 @@ fn period_of(rate: u32) -> u8
     }
 }
 
-// Check 7 in its four forms, with which both calls begin.
+// Check 7 in its four forms, with which both calls begin. Of the state it reads three numbers by themselves: the state is a type of the coder, which
+// stands above this crate, and has a fourth.
 fn coder_parameters(rate: u32, register: u8, place: u8, holds: u8) -> Result<(), Parameter>
     ensures { FirstOf (coder_parameters rate register place holds) (verdict_number result) }
 {

@@ -36,7 +36,8 @@ fn octet_back(symbols: &[u8], i: usize, behind: [u8; 64]) -> Column
     bit_back(seven, pair_at(symbols, t), 128)
 }
 
-// The row of each octet gets its ways; the result is the costs to go at the start. What all costs have is moved to the base.
+// The row of each octet gets its ways; the result is the costs to go at the start. What all costs have is moved to the base. By the octet's number:
+// it is the row's, and that of its two octets of symbols.
 pub(crate) fn rows_back(symbols: &[u8], rows: &mut [[u8; 64]; 256]) -> Start
     requires { (length symbols.now ≤ 512) × (length symbols.now % 2 ≡ 0) × (length rows.old ≡ 256) }
     ensures { ToGo (bits_of symbols.now) 0 result.base result.costs × Rows (bits_of symbols.now) 0 (length symbols.now / 2) rows.new }

@@ -7,7 +7,7 @@ ghost use Rattle.viterbi.specs.Working.{Earlier, Below, Under, Above, Lowered};
 use crate::Column;
 use crate::costs::cost_at;
 
-// The way of the cheaper one; of two equally cheap ones that with the bit 0.
+// The way of the cheaper one; of two equally cheap ones that with the bit 0. What is chosen by is not what is given, so no `min`.
 fn way_of_cheaper(zero: u8, one: u8, otherwise: u8, chosen: u8) -> u8
     ensures { result ≡ cond (ltb one zero) chosen otherwise }
 {

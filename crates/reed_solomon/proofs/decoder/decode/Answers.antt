@@ -1,7 +1,6 @@
 -- `decode` refuses before it works, delivers a block that is coded as it stands, or repairs the words into a local list and copies the frame out of it once the last word is good.
 use native.Mathlib.Omega.{arith}
 use Rattle.std.proofs.lemmas.Result.{err_from_is_err_and}
-use mathlib.Core.Path.{refl}
 use Rattle.reed_solomon.proofs.Deliveries.{refuses_parameter, refuses_word, delivers, delivers_coded, coded_room, checks_of_words}
 use Rattle.reed_solomon.proofs.decoder.decode.Goals as goal
 

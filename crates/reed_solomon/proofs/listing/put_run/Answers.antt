@@ -1,9 +1,7 @@
 -- `put_run`: a run in which nothing changed has no entries; in another, before octet `at` the changes of the octets before it are listed.
-use mathlib.Core.Path.{◌≡◌, refl, ◌∙◌, subst}
-use Prim.Native.Nat.{ℕ}
+use mathlib.Core.Path.{◌∙◌}
 use native.Mathlib.Omega.{arith}
 use lib.ListN.{get_or}
-use Rattle.reed_solomon.specs.SalvageWorking.{Listed}
 use Rattle.reed_solomon.proofs.ChangeLists.{change_most, listed_turn, listed_over}
 use Rattle.reed_solomon.proofs.listing.put_run.Goals as goal
 
@@ -19,24 +17,7 @@ loop-at-preserved c =
           (omega (arith, c.requires.1)) put.ensures (turn.invariant.4 before L),
     )
 
-pub run_alike-requires : goal.run_alike-requires
-run_alike-requires c = (c.requires.0, c.requires.1, omega (arith, c.requires.3), c.requires.2)
-
 pub returns-then-run_alike : goal.returns-then-run_alike
 returns-then-run_alike c =
     λ before L. listed_over c.args.block.now c.args.mended.now before c.requires.3 c.args.from c.args.end c.args.entries c.args.list.now
     c.requires.0 c.requires.1 (c.run_alike.ensures c.if-run_alike.true) L
-
-pub loop-at-init : goal.loop-at-init
-loop-at-init c = (omega arith, c.requires.0, c.requires.5, refl, λ before L. L)
-
-pub put_change-listed-requires : goal.put_change-listed-requires
-put_change-listed-requires c =
-    let turn = c.loop-at in
-    (omega (arith, c.requires.2), turn.invariant.2, omega (arith, turn.invariant.2, turn.invariant.3, c.requires.1, c.requires.4))
-
-pub returns : goal.returns
-returns c =
-    let turn = c.loop-at in
-    let all : turn.at ≡ c.args.end = omega (arith, turn.invariant.1) in
-    λ before L. subst (λ (n : ℕ). Listed c.args.block.now c.args.mended.now before n turn.listed turn.list) all (turn.invariant.4 before L)

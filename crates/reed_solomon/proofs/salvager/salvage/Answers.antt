@@ -1,7 +1,7 @@
 -- `salvage` refuses before it works, gives a block that is coded as it stands back as it is, or mends each word, copies the frame out and lists the changes.
 use native.Mathlib.Omega.{arith}
 use Rattle.std.proofs.lemmas.Result.{err_from_is_err_and}
-use Rattle.reed_solomon.proofs.Salvages.{salvage_refuses, salvages, salvages_coded, salvage_decodes, changes_room}
+use Rattle.reed_solomon.proofs.Salvages.{salvage_refuses, salvages, salvages_coded, salvage_decodes}
 use Rattle.reed_solomon.proofs.Deliveries.{coded_room, checks_of_words}
 use Rattle.reed_solomon.proofs.salvager.salvage.Goals as goal
 

@@ -1,6 +1,4 @@
 -- `difference`: before symbol k those before it stand with the row's octets added, and zeros elsewhere.
-use mathlib.Core.Path.{◌≡◌}
-use Prim.Native.Nat.{◌-◌}
 use native.Mathlib.Omega.{arith}
 use Rattle.reed_solomon.proofs.Gathering.{difference_starts, difference_turn}
 use Rattle.reed_solomon.proofs.given.Given.difference.Goals as goal
@@ -13,6 +11,3 @@ loop-k-preserved c = (
   omega arith,
   difference_turn _ _ _ _ _ c.loop-k.k _ c.loop-k.rest c.loop-k.invariant.1 c.loop-k.invariant.0 (omega arith) c.octet_of.ensures.0,
 )
-
-pub returns : goal.returns
-returns c = let all : c.loop-k.k ≡ 255 - c.args.self.now.fill = omega arith in rw all at c.loop-k.invariant.1.so_far
