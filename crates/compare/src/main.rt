@@ -4,40 +4,34 @@
 
 ghost use Rattle.std.specs.Prelude.{◌≤◌};
 
-mod calls;
 mod damage;
-mod data;
-mod print;
 mod trials;
 
-use print::Page;
+use pages::Words;
+use refusals::Code;
 use std::io;
 
 // No fill, one symbol, the middle, and all information symbols but one.
-fn fills(page: &mut Page, e: u32, depth: u32)
-    requires { (1 ≤ e) × (e ≤ 16) × (depth ≤ 8) }
+fn fills(rt: &impl Print, strength: u32, depth: u32) -> io::Result<()>
+    requires { (1 ≤ strength) × (strength ≤ 16) × (depth ≤ 8) }
 {
-    let information = 255 - 2 * e;
-    trials::all(page, e, depth, 0);
-    trials::all(page, e, depth, 1);
-    trials::all(page, e, depth, information / 2);
-    trials::all(page, e, depth, information - 1);
-}
-
-fn depths(page: &mut Page, e: u32)
-    requires { (1 ≤ e) × (e ≤ 16) }
-{
-    fills(page, e, 1);
-    fills(page, e, 2);
-    fills(page, e, 3);
-    fills(page, e, 4);
-    fills(page, e, 5);
-    fills(page, e, 8);
+    let information = 255 - 2 * strength;
+    for fill in [0, 1, information / 2, information - 1] {
+        let code = Code {
+            strength,
+            depth,
+            fill,
+        };
+        trials::all(rt, Words { code })?;
+    }
+    Ok(())
 }
 
 fn main(rt: HostRuntime) -> io::Result<()> {
-    let mut page = Page::new(rt.stdout());
-    depths(&mut page, 8);
-    depths(&mut page, 16);
-    page.finish()
+    for strength in [8u32, 16] {
+        for depth in [1u32, 2, 3, 4, 5, 8] {
+            fills(&rt, strength, depth)?;
+        }
+    }
+    Ok(())
 }

@@ -2,7 +2,8 @@
 use mathlib.Core.Path.{◌≡◌, refl, sym, ap, ap₂, ◌∙◌}
 use mathlib.Core.List.{List, [], ◌∷◌, ◌++◌, append-nil}
 use mathlib.Core.Logic.{inl}
-use Prim.Native.Nat.{ℕ, ◌+◌, ◌*◌, ◌/◌, ◌%◌, ◌≤◌, ◌<◌}
+use Prim.Native.Nat.{ℕ, ◌+◌, ◌-◌, ◌*◌, ◌/◌, ◌%◌, ◌≤◌, ◌<◌}
+use native.Mathlib.Nat.{mod-lt}
 use native.Mathlib.Numerals.{add-one}
 use native.Mathlib.Omega.{arith}
 use lib.ListN.{length, get_or, take}
@@ -77,7 +78,7 @@ module _ (register : ℕ) (octets : List ℕ) (six : register < 64) where
       ∙ register-append register (bits_of (take i octets)) (low_bits 8 (get_or octets i 0))
       ∙ register_octet _ (get_or octets i 0) (register_small register (bits_of (take i octets)) six) small
 
-  pub paired_next : (i r : ℕ) (symbols after : List ℕ) → i < length octets → r ≡ register_after register (bits_of (take i octets))
+  paired_next : (i r : ℕ) (symbols after : List ℕ) → i < length octets → r ≡ register_after register (bits_of (take i octets))
       → PairPut symbols (2 * i) r (get_or octets i 0) after → Paired register octets i symbols → Paired register octets (i + 1) after
   paired_next i r symbols after h e put sofar =
       let two : 2 * (i + 1) ≡ 2 * i + 2 = omega arith in
@@ -88,7 +89,27 @@ module _ (register : ℕ) (octets : List ℕ) (six : register < 64) where
       ∙ sym (symbols-append 1 register 0 front (low_bits 8 (get_or octets i 0)))
       ∙ ap (symbols_from 1 register 0) (sym (one_more i h))
 
+  pub paired_first : (symbols after : List ℕ) → 0 < length octets → PairPut symbols 0 register (get_or octets 0 0) after → Paired register octets 1 after
+  paired_first symbols after h put = paired_next 0 register symbols after h refl put refl
+
+  pub paired_on : (i : ℕ) (symbols after : List ℕ) → 0 < i → i < length octets → get_or octets (i - 1) 0 < 256
+      → PairPut symbols (2 * i) (get_or octets (i - 1) 0 % 64) (get_or octets i 0) after → Paired register octets i symbols → Paired register octets (i + 1) after
+  paired_on i symbols after some h small put sofar =
+      let back : i - 1 + 1 ≡ i = omega arith in
+      paired_next i (get_or octets (i - 1) 0 % 64) symbols after h (sym (register_last (i - 1) (omega arith) small) ∙ ap (λ (n : ℕ). register_after register (bits_of (take n octets))) back) put sofar
+
 -- ---- the whole call
+
+pub nothing_in : (start : Flow) (octets symbols : List ℕ) → Sound 1 start → start.holds ≡ 0 → length octets ≡ 0 → Run 1 start (bits_of octets) start symbols
+nothing_in start (x ∷ octets) symbols sound none e = absurd (omega arith)
+nothing_in start [] symbols sound none e =
+    let nothing : length (stream 1 start []) / 8 ≡ 0 = ap (λ (n : ℕ). length (low_bits n start.held ++ []) / 8) none in
+    record {
+      same = ap (λ (n : ℕ). bits_of (take n symbols) ++ low_bits start.holds start.held) nothing ∙ sym (append-nil (low_bits start.holds start.held));
+      register = refl;
+      place = refl;
+      sound = sound;
+    }
 
 module _ (start : Flow) (octets : List ℕ) (sound : Sound 1 start) (none : start.holds ≡ 0) where
   to_send_lem : stream 1 start (bits_of octets) ≡ symbols_from 1 start.register 0 (bits_of octets)
@@ -102,9 +123,10 @@ module _ (start : Flow) (octets : List ℕ) (sound : Sound 1 start) (none : star
   pub pairs_room : (n : ℕ) → length (stream 1 start (bits_of octets)) / 8 ≤ n → 2 * length octets ≤ n
   pairs_room n h = omega (arith, length-to_send)
 
-  pub all_paired : (register : ℕ) (symbols : List ℕ) → register < 64 → register ≡ register_after start.register (bits_of octets) → Paired start.register octets (length octets) symbols
-      → Run 1 start (bits_of octets) (record { register = register; place = start.place; held = start.held; holds = start.holds }) symbols
-  all_paired register symbols six e paired =
+  pub all_paired : (symbols : List ℕ) → 0 < length octets → get_or octets (length octets - 1) 0 < 256 → Paired start.register octets (length octets) symbols
+      → Run 1 start (bits_of octets) (record { register = get_or octets (length octets - 1) 0 % 64; place = start.place; held = start.held; holds = start.holds }) symbols
+  all_paired symbols some small paired =
+      let back : length octets - 1 + 1 ≡ length octets = omega arith in
       let all : take (length octets) octets ≡ octets = take-length octets in
       let first : start.place ≡ 0 = omega (arith, sound.place) in
       record {
@@ -114,7 +136,7 @@ module _ (start : Flow) (octets : List ℕ) (sound : Sound 1 start) (none : star
             ∙ paired
             ∙ ap (λ (l : List ℕ). symbols_from 1 start.register 0 (bits_of l)) all
             ∙ sym to_send_lem;
-        register = e;
+        register = sym (register_last start.register octets sound.register (length octets - 1) (omega arith) small) ∙ ap (λ (n : ℕ). register_after start.register (bits_of (take n octets))) back ∙ ap (λ (l : List ℕ). register_after start.register (bits_of l)) all;
         place = first ∙ sym (place_stays (bits_of octets)) ∙ ap (λ (p : ℕ). place_after 1 p (bits_of octets)) (sym first);
-        sound = record { register = six; place = sound.place; held = sound.held; holds = sound.holds };
+        sound = record { register = mod-lt (get_or octets (length octets - 1) 0) (omega arith); place = sound.place; held = sound.held; holds = sound.holds };
       }

@@ -1,183 +1,158 @@
 // The decoder at rate 1/2: at every limit and one past it, from each register, where inputs tie, and through noise, in one call and in two.
 ghost use Rattle.std.specs.Prelude.{length, ◌≤◌};
 
-use crate::print::Page;
-use crate::{calls, coding, convolving, print};
+use crate::wrong::change;
+use crate::{calls, convolving};
+use pages::{Buffer, fill, turn};
+use std::io;
 
 // Each output here has a given length and holds 170 before.
-fn with_output(page: &mut Page, register: u32, received: &[u8], output: usize) -> u32 {
+fn with_output(rt: &impl Print, register: u32, received: &[u8], output: usize) -> io::Result<u32> {
     let mut found = [170u8; 257];
     if output > 257 {
-        return register;
+        return Ok(register);
     }
-    calls::likeliest(page, register, received, &mut found[0..output])
+    calls::likeliest(rt, register, received, &mut found[..output])
 }
 
 // A call on symbols that are drawn.
-fn drawn(page: &mut Page, register: u32, received: usize, output: usize) {
+fn drawn(rt: &impl Print, register: u32, received: usize, output: usize) -> io::Result<()> {
     let mut symbols = [0u8; 514];
-    print::fill(register % 256, &mut symbols);
+    fill(register % 256, &mut symbols);
     if received <= 514 {
-        with_output(page, register, &symbols[0..received], output);
+        with_output(rt, register, &symbols[..received], output)?;
     }
+    Ok(())
 }
 
 // A call on symbols that are given.
-fn given(page: &mut Page, register: u32, received: &[u8]) -> u32 {
-    with_output(page, register, received, received.len() / 2)
+fn given(rt: &impl Print, register: u32, received: &[u8]) -> io::Result<u32> {
+    with_output(rt, register, received, received.len() / 2)
 }
 
-// The register's limits and one past them, then those of the lengths: none, few, an odd number, and the most, and outputs of wrong lengths.
-fn limits(page: &mut Page) {
-    drawn(page, 0, 0, 0);
-    drawn(page, 63, 0, 0);
-    drawn(page, 63, 2, 1);
-    drawn(page, 64, 0, 0);
-    drawn(page, 64, 2, 1);
-    drawn(page, u32::MAX, 0, 0);
-    drawn(page, u32::MAX, 2, 1);
-    drawn(page, 0, 0, 1);
-    drawn(page, 5, 2, 0);
-    drawn(page, 5, 2, 2);
-    drawn(page, 5, 4, 0);
-    drawn(page, 5, 4, 1);
-    drawn(page, 5, 4, 3);
-    drawn(page, 5, 4, 4);
-    drawn(page, 5, 1, 0);
-    drawn(page, 5, 1, 1);
-    drawn(page, 5, 3, 1);
-    drawn(page, 5, 3, 2);
-    drawn(page, 5, 511, 255);
-    drawn(page, 5, 511, 256);
-    drawn(page, 5, 513, 256);
-    drawn(page, 5, 513, 257);
-    drawn(page, 5, 510, 255);
-    drawn(page, 5, 512, 256);
-    drawn(page, 5, 512, 255);
-    drawn(page, 5, 512, 257);
-    drawn(page, 5, 512, 0);
-    drawn(page, 5, 514, 257);
-}
+// A register, and the lengths of the symbols and of the output.
+static DRAWN: [(u32, usize, usize); 39] = [
+    // The register's limits and one past them.
+    (0, 0, 0),
+    (63, 0, 0),
+    (63, 2, 1),
+    (64, 0, 0),
+    (64, 2, 1),
+    (u32::MAX, 0, 0),
+    (u32::MAX, 2, 1),
+    // Those of the lengths: none, few, an odd number, and the most, and outputs of wrong lengths.
+    (0, 0, 1),
+    (5, 2, 0),
+    (5, 2, 2),
+    (5, 4, 0),
+    (5, 4, 1),
+    (5, 4, 3),
+    (5, 4, 4),
+    (5, 1, 0),
+    (5, 1, 1),
+    (5, 3, 1),
+    (5, 3, 2),
+    (5, 511, 255),
+    (5, 511, 256),
+    (5, 513, 256),
+    (5, 513, 257),
+    (5, 510, 255),
+    (5, 512, 256),
+    (5, 512, 255),
+    (5, 512, 257),
+    (5, 512, 0),
+    (5, 514, 257),
+    // Two or three faults at once: the one that comes first in the order is the answer.
+    (5, 514, 256),
+    (5, 514, 0),
+    (5, 3, 0),
+    (63, 513, 0),
+    (64, 1, 0),
+    (64, 3, 3),
+    (64, 2, 0),
+    (64, 512, 257),
+    (64, 513, 0),
+    (u32::MAX, 514, 257),
+    (u32::MAX, 513, 1),
+];
 
-// Two or three faults at once: the one that comes first in the order is the answer.
-fn order(page: &mut Page) {
-    drawn(page, 5, 514, 256);
-    drawn(page, 5, 514, 0);
-    drawn(page, 5, 3, 0);
-    drawn(page, 63, 513, 0);
-    drawn(page, 64, 1, 0);
-    drawn(page, 64, 3, 3);
-    drawn(page, 64, 2, 0);
-    drawn(page, 64, 512, 257);
-    drawn(page, 64, 513, 0);
-    drawn(page, u32::MAX, 514, 257);
-    drawn(page, u32::MAX, 513, 1);
-}
-
-fn each_register(page: &mut Page) {
-    for register in 0u32..64 {
-        drawn(page, register, 2, 1);
+// One octet from each register, and two from some.
+fn registers(rt: &impl Print) -> io::Result<()> {
+    for register in 0..64u32 {
+        drawn(rt, register, 2, 1)?;
     }
-}
-
-fn two_octets(page: &mut Page) {
-    drawn(page, 0, 4, 2);
-    drawn(page, 1, 4, 2);
-    drawn(page, 21, 4, 2);
-    drawn(page, 32, 4, 2);
-    drawn(page, 42, 4, 2);
-    drawn(page, 62, 4, 2);
-    drawn(page, 63, 4, 2);
+    for register in [0, 1, 21, 32, 42, 62, 63] {
+        drawn(rt, register, 4, 2)?;
+    }
+    Ok(())
 }
 
 // Inputs that differ in equally few places: two that part at the first bit, at the second, the fifth and the last, then twelve and
 // thirteen; and of two octets two that meet again in one register.
-fn equals(page: &mut Page) {
-    given(page, 0, b"\x00\x01");
-    given(page, 21, b"\x00\x04");
-    given(page, 0, b"\x40\x15");
-    given(page, 0, b"\x55\x11");
-    given(page, 0, b"\x55\x54");
-    given(page, 21, b"\x50\x01");
-    given(page, 0, b"\x41\x11");
-    given(page, 0, b"\x44\x41");
-    given(page, 42, b"\x5A\x89\x55\x55");
-    given(page, 42, b"\x7F\x97\x59\xE3");
+fn equals(rt: &impl Print) -> io::Result<()> {
+    given(rt, 0, b"\x00\x01")?;
+    given(rt, 21, b"\x00\x04")?;
+    given(rt, 0, b"\x40\x15")?;
+    given(rt, 0, b"\x55\x11")?;
+    given(rt, 0, b"\x55\x54")?;
+    given(rt, 21, b"\x50\x01")?;
+    given(rt, 0, b"\x41\x11")?;
+    given(rt, 0, b"\x44\x41")?;
+    given(rt, 42, b"\x5A\x89\x55\x55")?;
+    given(rt, 42, b"\x7F\x97\x59\xE3")?;
+    Ok(())
 }
 
 // The symbols in one call, then in two of half the length, the second from the register that the first reached.
-fn whole_and_halves(page: &mut Page, register: u32, received: &[u8]) {
-    let end = received.len();
-    let middle = end / 2;
-    given(page, register, received);
-    let reached = given(page, register, &received[0..middle]);
-    given(page, reached, &received[middle..end]);
+fn whole_and_halves(rt: &impl Print, register: u32, received: &[u8]) -> io::Result<()> {
+    let (front, back) = received.split_at(received.len() / 2);
+    given(rt, register, received)?;
+    let reached = given(rt, register, front)?;
+    given(rt, reached, back)?;
+    Ok(())
 }
 
 // A symbol becomes wrong where the octet that is drawn for it is below the given number: so many in 256.
-fn through(symbols: &mut [u8], place: usize, drawn: u8, often: u8) {
-    if drawn < often {
-        coding::change(symbols, place / 8, 128u8 >> (place % 8));
-    }
-}
-
 fn noise(often: u8, symbols: &mut [u8])
     requires { length symbols.old ≤ 512 }
 {
-    let n = symbols.len();
-    let mut y = often as u32;
-    for place in 0..8 * n {
-        y = print::turn(y);
-        through(&mut *symbols, place, print::drawn(y), often);
+    let mut y = u32::from(often);
+    for place in 0..8 * symbols.len() {
+        y = turn(y);
+        if pages::drawn(y) < often {
+            change(symbols, place / 8, 128u8 >> (place % 8));
+        }
     }
 }
 
-fn coded(page: &mut Page, register: u8, often: u8, sent: &[u8], symbols: &mut [u8])
-    requires { length symbols.old ≤ 512 }
-{
-    let state = convolving::state_at(register, 0, 0, 0);
-    print::text(page, b"data");
-    print::buffer(page, sent);
-    print::end(page);
-    calls::convolve(page, 1, state, sent, &mut *symbols);
-    noise(often, &mut *symbols);
-    whole_and_halves(page, register as u32, symbols);
-}
-
 // Drawn data, coded, and received with so many wrong symbols in 256.
-fn through_noise(page: &mut Page, register: u8, octets: usize, often: u8)
+fn through_noise(rt: &impl Print, register: u8, octets: usize, often: u8) -> io::Result<()>
     requires { octets ≤ 256 }
 {
-    let mut sent = [0u8; 256];
-    let mut symbols = [170u8; 512];
-    print::fill(octets as u32 + register as u32, &mut sent);
-    coded(
-        page,
-        register,
-        often,
-        &sent[0..octets],
-        &mut symbols[0..2 * octets],
-    );
+    let mut given = [0u8; 256];
+    let mut coded = [170u8; 512];
+    let mut state = convolving::state_at(register, 0, 0, 0);
+    fill(octets as u32 + u32::from(register), &mut given);
+    let sent = &given[..octets];
+    let symbols = &mut coded[..2 * octets];
+    println!(rt; "data{}", Buffer(sent))?;
+    calls::convolve(rt, 1, &mut state, sent, symbols)?;
+    noise(often, symbols);
+    whole_and_halves(rt, u32::from(register), symbols)
 }
 
-fn noises(page: &mut Page, octets: usize)
-    requires { octets ≤ 256 }
-{
-    through_noise(page, 0, octets, 0);
-    through_noise(page, 9, octets, 4);
-    through_noise(page, 27, octets, 16);
-    through_noise(page, 45, octets, 32);
-    through_noise(page, 63, octets, 128);
-}
-
-pub(crate) fn all(page: &mut Page) {
-    limits(page);
-    order(page);
-    each_register(page);
-    two_octets(page);
-    equals(page);
+pub(crate) fn all(rt: &impl Print) -> io::Result<()> {
+    for &(register, received, output) in &DRAWN {
+        drawn(rt, register, received, output)?;
+    }
+    registers(rt)?;
+    equals(rt)?;
     // One wrong symbol, set right in one call and not in two.
-    whole_and_halves(page, 0, b"\x55\x54\xE9\x25");
-    noises(page, 16);
-    noises(page, 256);
+    whole_and_halves(rt, 0, b"\x55\x54\xE9\x25")?;
+    for octets in [16, 256] {
+        for (register, often) in [(0, 0), (9, 4), (27, 16), (45, 32), (63, 128)] {
+            through_noise(rt, register, octets, often)?;
+        }
+    }
+    Ok(())
 }

@@ -2,6 +2,9 @@
 // made by this code: docs/src/README.md says where each line comes from.
 #![tactic(auto)]
 
+ghost use Rattle.std.specs.Prelude.{◌≡◌, ◌+◌, ◌*◌, ◌≤◌};
+
+mod answers;
 mod calls;
 mod chaining;
 mod coding;
@@ -10,25 +13,44 @@ mod likeliest;
 mod limits;
 mod marking;
 mod portioning;
-mod print;
 mod randomising;
 mod salvaging;
 mod symbols;
+mod wrong;
 
-use print::Page;
+use pages::Words;
+use refusals::Code;
 use std::io;
 
+fn code(strength: u32, depth: u32, fill: u32) -> Code
+    ensures strength { result.strength ≡ strength }
+    ensures depth { result.depth ≡ depth }
+    ensures fill { result.fill ≡ fill }
+{
+    Code {
+        strength,
+        depth,
+        fill,
+    }
+}
+
+// Words of the shortest blocks.
+fn shortest(strength: u32, fill: u32) -> Words
+    requires { (1 ≤ strength) × (2 * strength + fill ≤ 254) }
+{
+    let code = code(strength, 1, fill);
+    Words { code }
+}
+
 fn main(rt: HostRuntime) -> io::Result<()> {
-    let mut page = Page::new(rt.stdout());
-    symbols::all(&mut page);
-    randomising::all(&mut page);
-    marking::all(&mut page);
-    convolving::all(&mut page);
-    likeliest::all(&mut page);
-    limits::all(&mut page);
-    coding::all(&mut page);
-    salvaging::all(&mut page);
-    portioning::all(&mut page);
-    chaining::all(&mut page);
-    page.finish()
+    symbols::all(&rt)?;
+    randomising::all(&rt)?;
+    marking::all(&rt)?;
+    convolving::all(&rt)?;
+    likeliest::all(&rt)?;
+    limits::all(&rt)?;
+    coding::all(&rt)?;
+    salvaging::all(&rt)?;
+    portioning::all(&rt)?;
+    chaining::all(&rt)
 }

@@ -1,191 +1,183 @@
 // The marker test and the search.
-use crate::print;
-use crate::print::Page;
-use marker::{Form, Searched, Tested};
-use refusals::MarkerRefusal;
+use marker::{Form, Searched};
+use pages::fill;
+use refusals::{MarkerRefusal, Refusal};
+use std::io;
 
-fn form_number(page: &mut Page, form: Form) {
-    match form {
-        Form::True => print::number(page, 1),
-        Form::Complement => print::number(page, 2),
-    }
+// The true marker is form 1, its complement 2.
+fn form_number(form: Form) -> u8 {
+    1 + form as u8
 }
 
-fn tested(page: &mut Page, tolerance: u32, octets: &[u8]) {
-    print::text(page, b"marker");
+fn tested(rt: &impl Print, tolerance: u32, octets: &[u8]) -> io::Result<()> {
     match marker::test(tolerance, octets) {
-        Tested::Accepted(form, wrong) => {
-            print::number(page, 0);
-            form_number(page, form);
-            print::number(page, wrong as u64);
-        }
-        Tested::Refused(refusal) => match refusal {
-            MarkerRefusal::Parameters(p) => print::number(page, refusals::parameter_number(p)),
-            MarkerRefusal::WrongBits(wrong) => {
-                print::number(page, 9);
-                print::number(page, wrong as u64);
-            }
-        },
+        Ok(near) => println!(rt; "marker 0 {} {}", form_number(near.form), near.wrong),
+        Err(MarkerRefusal::Parameters(p)) => println!(rt; "marker {}", p.number()),
+        Err(MarkerRefusal::WrongBits(wrong)) => println!(rt; "marker 9 {wrong}"),
     }
-    print::end(page);
 }
 
-// At each tolerance, one past it and the largest number: no to five wrong bits of either form, zeros and ones, which fit neither, and
-// wrong lengths.
-fn tests_at(page: &mut Page, tolerance: u32) {
-    tested(page, tolerance, b"\x1A\xCF\xFC\x1D");
-    tested(page, tolerance, b"\x9A\xCF\xFC\x1D");
-    tested(page, tolerance, b"\x9A\xCF\xFC\x1C");
-    tested(page, tolerance, b"\x9A\xDF\xFC\x1C");
-    tested(page, tolerance, b"\x9A\xDF\xF4\x1C");
-    tested(page, tolerance, b"\x98\xDF\xF4\x1C");
-    tested(page, tolerance, b"\x00\x00\x00\x00");
-    tested(page, tolerance, b"\xFF\xFF\xFF\xFF");
-    tested(page, tolerance, b"\xE5\x30\x03\xE2");
-    tested(page, tolerance, b"\x65\x30\x03\xE2");
-    tested(page, tolerance, b"\x65\x30\x03\xE3");
-    tested(page, tolerance, b"\x65\x20\x03\xE3");
-    tested(page, tolerance, b"\x65\x20\x0B\xE3");
-    tested(page, tolerance, b"\x67\x20\x0B\xE3");
-    tested(page, tolerance, b"\x1A\xCF\xFC");
-    tested(page, tolerance, b"\x1A\xCF\xFC\x1D\x00");
-    tested(page, tolerance, b"");
+// No to five wrong bits of either form, zeros and ones, which fit neither.
+static MARKERS: [[u8; 4]; 14] = [
+    [0x1A, 0xCF, 0xFC, 0x1D],
+    [0x9A, 0xCF, 0xFC, 0x1D],
+    [0x9A, 0xCF, 0xFC, 0x1C],
+    [0x9A, 0xDF, 0xFC, 0x1C],
+    [0x9A, 0xDF, 0xF4, 0x1C],
+    [0x98, 0xDF, 0xF4, 0x1C],
+    [0x00, 0x00, 0x00, 0x00],
+    [0xFF, 0xFF, 0xFF, 0xFF],
+    [0xE5, 0x30, 0x03, 0xE2],
+    [0x65, 0x30, 0x03, 0xE2],
+    [0x65, 0x30, 0x03, 0xE3],
+    [0x65, 0x20, 0x03, 0xE3],
+    [0x65, 0x20, 0x0B, 0xE3],
+    [0x67, 0x20, 0x0B, 0xE3],
+];
+
+// At each tolerance, one past it and the largest number; and wrong lengths.
+fn tests_at(rt: &impl Print, tolerance: u32) -> io::Result<()> {
+    for octets in &MARKERS {
+        tested(rt, tolerance, octets)?;
+    }
+    tested(rt, tolerance, b"\x1A\xCF\xFC")?;
+    tested(rt, tolerance, b"\x1A\xCF\xFC\x1D\x00")?;
+    tested(rt, tolerance, b"")
 }
 
-fn searched(page: &mut Page, tolerance: u32, stream: &[u8], start: u64, budget: u64) {
-    print::text(page, b"search");
+fn searched(
+    rt: &impl Print,
+    tolerance: u32,
+    stream: &[u8],
+    start: u64,
+    budget: u64,
+) -> io::Result<()> {
     match marker::search(tolerance, stream, start, budget) {
-        Searched::Found {
-            place,
-            form,
-            wrong,
-            looked,
-        } => {
-            print::text(page, b" found");
-            print::number(page, place);
-            print::number(page, wrong as u64);
-            print::number(page, looked);
-            form_number(page, form);
-        }
-        Searched::Absent { looked } => {
-            print::text(page, b" absent");
-            print::number(page, looked);
-        }
-        Searched::Spent { place, looked } => {
-            print::text(page, b" spent");
-            print::number(page, place);
-            print::number(page, looked);
-        }
-        Searched::Refused(p) => {
-            print::text(page, b" refused");
-            print::number(page, refusals::parameter_number(p));
-        }
+        Ok(
+            Searched::Found {
+                place,
+                form,
+                wrong,
+                looked,
+            },
+        ) => println!(rt;
+            "search found {place} {wrong} {looked} {}",
+            form_number(form)
+        ),
+        Ok(Searched::Absent { looked }) => println!(rt; "search absent {looked}"),
+        Ok(Searched::Spent { place, looked }) => println!(rt; "search spent {place} {looked}"),
+        Err(p) => println!(rt; "search refused {}", p.number()),
     }
-    print::end(page);
 }
 
 // A short stream with the marker three bits in, and once more, with three wrong bits, at bit 80.
-fn short_stream(page: &mut Page, tolerance: u32) {
+fn short_stream(rt: &impl Print, tolerance: u32) -> io::Result<()> {
     let stream = b"\x43\x59\xFF\x83\xB5\x55\x55\x55\x55\x55\x1A\xCF\xFF\x1C\x00";
-    searched(page, tolerance, stream, 0, 0);
-    searched(page, tolerance, stream, 0, 3);
-    searched(page, tolerance, stream, 0, 4);
-    searched(page, tolerance, stream, 3, 1);
-    searched(page, tolerance, stream, 4, 75);
-    searched(page, tolerance, stream, 4, 76);
-    searched(page, tolerance, stream, 4, 77);
-    searched(page, tolerance, stream, 4, 84);
-    searched(page, tolerance, stream, 4, 85);
-    searched(page, tolerance, stream, 81, 7);
-    searched(page, tolerance, stream, 81, 8);
-    searched(page, tolerance, stream, 88, 0);
-    searched(page, tolerance, stream, 89, 0);
-    searched(page, tolerance, stream, 120, u64::MAX);
-    searched(page, tolerance, stream, 121, u64::MAX);
-    searched(page, tolerance, stream, u64::MAX, 0);
+    for (start, budget) in [
+        (0, 0),
+        (0, 3),
+        (0, 4),
+        (3, 1),
+        (4, 75),
+        (4, 76),
+        (4, 77),
+        (4, 84),
+        (4, 85),
+        (81, 7),
+        (81, 8),
+        (88, 0),
+        (89, 0),
+        (120, u64::MAX),
+        (121, u64::MAX),
+        (u64::MAX, 0),
+    ] {
+        searched(rt, tolerance, stream, start, budget)?;
+    }
+    Ok(())
 }
 
 // One form at bit 8, with three wrong bits, then the other at bit 40, the last place.
-fn two_forms(page: &mut Page, tolerance: u32, stream: &[u8]) {
-    searched(page, tolerance, stream, 0, 8);
-    searched(page, tolerance, stream, 0, 9);
-    searched(page, tolerance, stream, 0, 40);
-    searched(page, tolerance, stream, 0, 41);
-    searched(page, tolerance, stream, 0, u64::MAX);
-    searched(page, tolerance, stream, 8, 1);
-    searched(page, tolerance, stream, 9, 31);
-    searched(page, tolerance, stream, 9, 32);
-    searched(page, tolerance, stream, 41, 1);
+fn two_forms(rt: &impl Print, tolerance: u32, stream: &[u8]) -> io::Result<()> {
+    for (start, budget) in [
+        (0, 8),
+        (0, 9),
+        (0, 40),
+        (0, 41),
+        (0, u64::MAX),
+        (8, 1),
+        (9, 31),
+        (9, 32),
+        (41, 1),
+    ] {
+        searched(rt, tolerance, stream, start, budget)?;
+    }
+    Ok(())
 }
 
 // The complement first, then the true marker first.
-fn either_first(page: &mut Page, tolerance: u32) {
-    two_forms(page, tolerance, b"\x55\x65\x20\x03\xE3\x1A\xCF\xFC\x1D");
-    two_forms(page, tolerance, b"\xAA\x9A\xDF\xFC\x1C\xE5\x30\x03\xE2");
+fn either_first(rt: &impl Print, tolerance: u32) -> io::Result<()> {
+    two_forms(rt, tolerance, b"\x55\x65\x20\x03\xE3\x1A\xCF\xFC\x1D")?;
+    two_forms(rt, tolerance, b"\xAA\x9A\xDF\xFC\x1C\xE5\x30\x03\xE2")
 }
 
 // Too short for a place, exactly one place, and the two faults that can meet.
-fn small_streams(page: &mut Page) {
-    searched(page, 3, b"", 0, 5);
-    searched(page, 3, b"", 1, 5);
-    searched(page, 3, b"\x1A\xCF\xFC", 0, 5);
-    searched(page, 0, b"\x1A\xCF\xFC\x1D", 0, 1);
-    searched(page, 0, b"\x1A\xCF\xFC\x1D", 0, 0);
-    searched(page, 0, b"\x1A\xCF\xFC\x1D", 1, 1);
-    searched(page, 4, b"\x1A\xCF\xFC\x1D", 33, 1);
-    searched(page, u32::MAX, b"", 0, 0);
+fn small_streams(rt: &impl Print) -> io::Result<()> {
+    let marker = b"\x1A\xCF\xFC\x1D";
+    searched(rt, 3, b"", 0, 5)?;
+    searched(rt, 3, b"", 1, 5)?;
+    searched(rt, 3, b"\x1A\xCF\xFC", 0, 5)?;
+    searched(rt, 0, marker, 0, 1)?;
+    searched(rt, 0, marker, 0, 0)?;
+    searched(rt, 0, marker, 1, 1)?;
+    searched(rt, 4, marker, 33, 1)?;
+    searched(rt, u32::MAX, b"", 0, 0)
 }
 
-fn put(stream: &mut [u8], at: usize, octet: u8) {
-    if at < stream.len() {
-        stream[at] = octet;
+fn longest(rt: &impl Print, stream: &[u8]) -> io::Result<()> {
+    for (tolerance, start, budget) in [
+        (0, 0, u64::MAX),
+        (0, 0, 524256),
+        (0, 0, 524257),
+        (3, 100000, 300000),
+        (3, 524256, 1),
+        (3, 524257, 1),
+        (3, 524288, 1),
+        (3, 524289, 1),
+    ] {
+        searched(rt, tolerance, stream, start, budget)?;
     }
-}
-
-fn longest(page: &mut Page, stream: &[u8]) {
-    searched(page, 0, stream, 0, u64::MAX);
-    searched(page, 0, stream, 0, 524256);
-    searched(page, 0, stream, 0, 524257);
-    searched(page, 3, stream, 100000, 300000);
-    searched(page, 3, stream, 524256, 1);
-    searched(page, 3, stream, 524257, 1);
-    searched(page, 3, stream, 524288, 1);
-    searched(page, 3, stream, 524289, 1);
-}
-
-fn one_octet_more(page: &mut Page, stream: &[u8]) {
-    searched(page, 3, stream, 0, 1);
-    searched(page, 3, stream, 524297, 1);
-    searched(page, 4, stream, 0, 1);
+    Ok(())
 }
 
 // The longest stream, which is all but one octet of what is lent, with these octets at its end.
-fn longest_with(page: &mut Page, stream: &mut [u8], first: u8, second: u8, third: u8, fourth: u8) {
-    put(&mut *stream, 65532, first);
-    put(&mut *stream, 65533, second);
-    put(&mut *stream, 65534, third);
-    put(&mut *stream, 65535, fourth);
-    if stream.len() == 65537 {
-        longest(page, &stream[0..65536]);
+fn longest_with(rt: &impl Print, stream: &mut [u8], end: &[u8; 4]) -> io::Result<()> {
+    if let Some(last) = stream.get_mut(65532..65536) {
+        last.copy_from_slice(end);
     }
+    if let Some(whole) = stream.get(..65536) {
+        longest(rt, whole)?;
+    }
+    Ok(())
 }
 
 // The longest stream, with the marker at its end, then the complement, and one octet more.
-fn long_streams(page: &mut Page, stream: &mut [u8]) {
-    print::fill(11, &mut *stream);
-    longest_with(page, &mut *stream, 0x1A, 0xCF, 0xFC, 0x1D);
-    longest_with(page, &mut *stream, 0xE5, 0x30, 0x03, 0xE2);
-    one_octet_more(page, stream);
+fn long_streams(rt: &impl Print) -> io::Result<()> {
+    let mut stream = [0u8; 65537];
+    fill(11, &mut stream);
+    longest_with(rt, &mut stream, b"\x1A\xCF\xFC\x1D")?;
+    longest_with(rt, &mut stream, b"\xE5\x30\x03\xE2")?;
+    searched(rt, 3, &stream, 0, 1)?;
+    searched(rt, 3, &stream, 524297, 1)?;
+    searched(rt, 4, &stream, 0, 1)
 }
 
-pub(crate) fn all(page: &mut Page) {
-    for tolerance in 0..5u32 {
-        tests_at(page, tolerance);
-        short_stream(page, tolerance);
-        either_first(page, tolerance);
+pub(crate) fn all(rt: &impl Print) -> io::Result<()> {
+    for tolerance in 0..5 {
+        tests_at(rt, tolerance)?;
+        short_stream(rt, tolerance)?;
+        either_first(rt, tolerance)?;
     }
-    tests_at(page, u32::MAX);
-    small_streams(page);
-    let mut stream = [0u8; 65537];
-    long_streams(page, &mut stream);
+    tests_at(rt, u32::MAX)?;
+    small_streams(rt)?;
+    long_streams(rt)
 }

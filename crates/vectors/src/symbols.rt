@@ -1,40 +1,35 @@
 // Table B-1 of source 004 in both directions, inverses and products.
-use crate::print;
-use crate::print::Page;
+use std::fmt::Display;
+use std::io;
 
-fn row(page: &mut Page, element: u8) {
+// An element, its line octet, and what that is turned back into.
+fn row(rt: &impl Print, power: impl Display + Drop, element: u8) -> io::Result<()> {
     let line = field::to_line(element);
-    print::octet(page, element);
-    print::octet(page, line);
-    print::octet(page, field::to_conventional(line));
-    print::end(page);
+    let again = field::to_conventional(line);
+    println!(rt; "power {power} {element:02x} {line:02x} {again:02x}")
 }
 
-fn table(page: &mut Page) {
-    print::text(page, b"power *");
-    row(page, 0);
-    let mut element: u8 = 1;
-    for power in 0..255u64 {
-        print::text(page, b"power");
-        print::number(page, power);
-        row(page, element);
+fn table(rt: &impl Print) -> io::Result<()> {
+    row(rt, '*', 0)?;
+    let mut element = 1u8;
+    for power in 0..255u32 {
+        row(rt, power, element)?;
         element = field::mul(element, 2);
     }
+    Ok(())
 }
 
-fn inverses(page: &mut Page) {
+fn inverses(rt: &impl Print) -> io::Result<()> {
     for a in 0..=255u8 {
         let inverse = field::inverse(a);
-        print::text(page, b"inverse");
-        print::octet(page, a);
-        print::octet(page, inverse);
-        print::octet(page, field::mul(a, inverse));
-        print::octet(page, field::mul(inverse, 0xFF));
-        print::end(page);
+        let one = field::mul(a, inverse);
+        let product = field::mul(inverse, 0xFF);
+        println!(rt; "inverse {a:02x} {inverse:02x} {one:02x} {product:02x}")?;
     }
+    Ok(())
 }
 
-pub(crate) fn all(page: &mut Page) {
-    table(page);
-    inverses(page);
+pub(crate) fn all(rt: &impl Print) -> io::Result<()> {
+    table(rt)?;
+    inverses(rt)
 }

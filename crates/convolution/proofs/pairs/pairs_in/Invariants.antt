@@ -1,14 +1,16 @@
--- `pairs_in` meets its contract. The loop's invariant: the octets so far are paired, and the register is the one behind them.
+-- `pairs_in` meets its contract. The loop's invariant: if the first octet is paired, from whatever register, so are all octets so far.
 use mathlib.Core.Path.{◌≡◌}
-use Prim.Native.Nat.{◌<◌}
-use lib.ListN.{length, take}
-use Rattle.convolution.specs.Coder.{bits_of, register_after}
+use Prim.Native.Nat.{ℕ, ◌-◌, ◌≤◌, ◌<◌}
+use lib.ListN.{length}
 use Rattle.convolution.proofs.Pairing.{Paired}
 use Rattle.convolution.proofs.pairs.pairs_in.Given as goal
 
 abbrev pub invariant-loop-i : goal.invariant-loop-i
 invariant-loop-i l =
-    (l.register < 64)
-    × (l.register ≡ register_after l.start.register (bits_of (take l.i l.octets)))
+    (0 < l.i)
+    × (l.i ≤ length l.octets)
     × (length l.symbols ≡ length l.initial.symbols)
-    × Paired l.start.register l.octets l.i l.symbols
+    × ((register : ℕ) → register < 64 → Paired register l.octets 1 l.initial.symbols → Paired register l.octets l.i l.symbols)
+
+abbrev pub decreases-loop-i : goal.decreases-loop-i
+decreases-loop-i l = l.n - l.i

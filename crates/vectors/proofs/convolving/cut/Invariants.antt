@@ -3,4 +3,4 @@ use Rattle.std.proofs.Common.{◌≤◌}
 use Rattle.vectors.proofs.convolving.cut.Given as goal
 
 abbrev pub invariant-loop : goal.invariant-loop
-invariant-loop l = l.written ≤ l.sent
+invariant-loop g l = l.written ≤ l.sent
