@@ -1,6 +1,4 @@
--- Every case of the table holds: (A) to (I) by computing, (G) to (I) also because Rattle.reed_solomon.specs.Outcome.{Decoded, Delivered}
-use Rattle.std.specs.Prelude.{Ok, Err}
-use the coder is settled; (J) and (K) because zeros are a codeword, the one within 16 symbols, and because
+-- Every case of the table holds: (A) to (I) by computing, (G) to (I) also because the coder is settled; (J) and (K) because zeros are a codeword, the one within 16 symbols, and because
 -- encode and decode are settled.
 use mathlib.Core.Path.{◌≡◌, refl, sym, ap, ◌∙◌, subst}
 use mathlib.Core.Logic.{inl, inr}
@@ -12,7 +10,6 @@ use Rattle.field.specs.Field.{◌⊕◌, ◌·◌, shift_and_add, times_alpha, w
 use Rattle.field.specs.Line.{to_line, to_conventional}
 use Rattle.randomiser.specs.Sequence.{sequence_octet, number_from, bit_from, bit_after}
 use Rattle.convolution.specs.declared.State.{State}
-use Rattle.convolution.specs.declared.Convolved.TheVariants.{Done}
 use Rattle.convolution.specs.Coder.{symbols_at, packed, filled}
 use Rattle.convolution.specs.Outcome.{ConvolveOutcome, CloseOutcome, zero_state, held_of, symbols_of, to_send, state_after}
 use Rattle.convolution.proofs.Settled.{convolve_settled, close_settled}
@@ -20,7 +17,6 @@ use Rattle.convolution.proofs.Continuing.{LegalState, zero_legal, next_legal, ca
 use Rattle.refusals.specs.Order.{FirstOf, OneOf}
 use Rattle.refusals.specs.Sizes.{rates, octets_for}
 use Rattle.refusals.specs.Calls.{strength, depth, fill, decode_parameters}
-use Rattle.refusals.specs.declared.Verdict.TheVariants.{Accepted}
 use Rattle.refusals.specs.declared.WordRefusal.TheVariants.{NoCodeword}
 use Rattle.refusals.proofs.Orders.{clear_accepted}
 use Rattle.codewords.specs.Words.{Good, differing}
@@ -30,7 +26,8 @@ use Rattle.codewords.proofs.ZeroWords.{zero_word, zero_good}
 use Rattle.words.proofs.Arrays.{zero-at}
 use Rattle.encoding.specs.Blocks.{sent_from, word_of, sum}
 use Rattle.encoding.specs.Outcome.{EncodeOutcome}
-use Rattle.reed_solomon.specs.Outcome.{Delivery, Lost, DecodeOutcome}
+use Rattle.std.specs.Prelude.{Ok, Err}
+use Rattle.reed_solomon.specs.Outcome.{Decoded, Delivered, Delivery, Lost, DecodeOutcome}
 use Rattle.encoding.proofs.Settled.{encode_settled}
 use Rattle.reed_solomon.proofs.DecodeSettled.{decode_settled}
 use Rattle.reed_solomon.proofs.Deliverable.{Passed, all_found, some_lost}
@@ -49,11 +46,11 @@ module _ (rate : ℕ) (legal : OneOf rates rate) (octets written closed : List �
       → closed ≡ packed (held_of state)
       → length closed ≡ octets_for state.holds
       → (before room : List ℕ) → length before ≡ length written → length room ≡ length closed
-      → Convolves rate octets before room (record { answer = Done count; state = state }) written (Done state.holds) closed
+      → Convolves rate octets before room (Ok count) state written (Ok state.holds) closed
   convolves few counts writes size leaves rest size' before room fits fits' =
       let start = zero_legal rate legal in
       let next : LegalState rate state = subst (LegalState rate) (sym leaves) (next_legal rate zero_state octets start) in
-      let permitted : ConvolveOutcome rate zero_state octets before (record { answer = Done count; state = state }) written =
+      let permitted : ConvolveOutcome rate zero_state octets before (Ok count) state written =
       record {
         number = (call_permitted rate zero_state start octets before few (fits ∙ size)).number;
         refused = λ not. absurd (not refl);
@@ -61,10 +58,10 @@ module _ (rate : ℕ) (legal : OneOf rates rate) (octets written closed : List �
         symbols = λ z. writes;
         state = λ z. leaves;
       } in
-      let closes : CloseOutcome rate state room (Done state.holds) closed = subst (CloseOutcome rate state room (Done state.holds)) (sym rest) (close_permitted rate state next room (fits' ∙ size')) in
+      let closes : CloseOutcome rate state room (Ok state.holds) closed = subst (CloseOutcome rate state room (Ok state.holds)) (sym rest) (close_permitted rate state next room (fits' ∙ size')) in
       record {
         permitted = permitted;
-        only = λ other after P. convolve_settled rate zero_state before after written octets other _ P permitted;
+        only = λ other next after P. convolve_settled rate zero_state before after written octets other _ next state P permitted;
         closes = closes;
         closes_only = λ other after P. close_settled rate state room after closed other _ P closes;
       }
@@ -80,14 +77,14 @@ block_legal : FirstOf (strength 16 ∷ depth 1 ∷ fill 16 222 ∷ []) 0
 block_legal = clear_accepted (strength 16 ∷ depth 1 ∷ fill 16 222 ∷ []) ((λ not. not (inr (inl refl))), ((λ not. not (inl refl)), ((λ over. omega arith), tt)))
 
 module _ (before : List ℕ) (size : length before ≡ 33) where
-  zero_encoded : EncodeOutcome 16 1 222 (0 ∷ []) before Accepted zero_block
+  zero_encoded : EncodeOutcome 16 1 222 (0 ∷ []) before (Ok tt) zero_block
   zero_encoded = zeros_encoded 16 1 222 block_legal before size
 
-  zero_encodes : Encodes 16 1 222 (0 ∷ []) before Accepted zero_block
+  zero_encodes : Encodes 16 1 222 (0 ∷ []) before (Ok tt) zero_block
   zero_encodes =
       record {
         permitted = zero_encoded;
-        only = λ other after P. encode_settled 16 1 222 (0 ∷ []) before other Accepted after zero_block P zero_encoded;
+        only = λ other after P. encode_settled 16 1 222 (0 ∷ []) before other (Ok tt) after zero_block P zero_encoded;
       }
 
 -- ---- (K)

@@ -1,21 +1,15 @@
 -- The worked cases (A) to (K) in one table, and what each kind of case says (document 01, "Proved examples").
-use Rattle.reed_solomon.specs.Outcome.{Decoded, Delivered}
-use Rattle.std.specs.Prelude.{Ok, Err}
-use Rattle.std.specs.Prelude.{◌≡◌, List, [], ◌∷◌, ◌++◌, ℕ, zero, suc, length, drop, replicate}
+use Rattle.std.specs.Prelude.{◌≡◌, Ok, Err, List, [], ◌∷◌, ◌++◌, ℕ, zero, suc, length, drop, replicate}
 use Rattle.field.specs.Field.{◌·◌}
 use Rattle.field.specs.Line.{to_line, to_conventional}
 use Rattle.randomiser.specs.Sequence.{sequence_octet}
 use Rattle.convolution.specs.declared.State.{State}
-use Rattle.convolution.specs.declared.Ran.{Ran}
-use Rattle.convolution.specs.declared.Convolved.{Convolved}
-use Rattle.convolution.specs.declared.Convolved.TheVariants.{Done}
-use Rattle.convolution.specs.Outcome.{zero_state, ConvolveOutcome, CloseOutcome}
+use Rattle.convolution.specs.Outcome.{Convolved, zero_state, ConvolveOutcome, CloseOutcome}
 use Rattle.refusals.specs.Sizes.{frame_length, block_length}
-use Rattle.refusals.specs.declared.Verdict.{Verdict}
-use Rattle.refusals.specs.declared.Verdict.TheVariants.{Accepted}
+use Rattle.refusals.specs.Numbers.{Verdict}
 use Rattle.refusals.specs.declared.WordRefusal.TheVariants.{NoCodeword}
 use Rattle.encoding.specs.Outcome.{EncodeOutcome}
-use Rattle.reed_solomon.specs.Outcome.{DecodeOutcome}
+use Rattle.reed_solomon.specs.Outcome.{Decoded, Delivered, DecodeOutcome}
 
 -- A worked case, by its kind: what is given, then what comes of it.
 pub data Example : Type 0 where
@@ -45,11 +39,11 @@ pub record Decodes (e i q s : ℕ) (block before : List ℕ) (answer : Decoded) 
       → (other ≡ answer) × (others ≡ counts) × (sum ≡ total) × (after ≡ frame)
 
 -- From the zero state convolve permits this answer, with this state, and these octets, and nothing else; so does a close of that state.
-pub record Convolves (rate : ℕ) (octets before room : List ℕ) (ran : Ran) (written : List ℕ) (answer : Convolved) (closed : List ℕ) : Type 0 where
-  pub permitted : ConvolveOutcome rate zero_state octets before ran written
-  pub only : (other : Ran) (after : List ℕ) → ConvolveOutcome rate zero_state octets before other after → (other ≡ ran) × (after ≡ written)
-  pub closes : CloseOutcome rate ran.state room answer closed
-  pub closes_only : (other : Convolved) (after : List ℕ) → CloseOutcome rate ran.state room other after → (other ≡ answer) × (after ≡ closed)
+pub record Convolves (rate : ℕ) (octets before room : List ℕ) (ran : Convolved) (state : State) (written : List ℕ) (answer : Convolved) (closed : List ℕ) : Type 0 where
+  pub permitted : ConvolveOutcome rate zero_state octets before ran state written
+  pub only : (other : Convolved) (next : State) (after : List ℕ) → ConvolveOutcome rate zero_state octets before other next after → (other ≡ ran) × (next ≡ state) × (after ≡ written)
+  pub closes : CloseOutcome rate state room answer closed
+  pub closes_only : (other : Convolved) (after : List ℕ) → CloseOutcome rate state room other after → (other ≡ answer) × (after ≡ closed)
 
 -- What a case says by the definitions; a coder's output may hold anything before the call, if it has the length required.
 abbrev pub Holds : Example → Type 0
@@ -59,8 +53,8 @@ Holds (product_is a b product) = a · b ≡ product
 Holds (sequence_begins octets) = sequence_from 0 (length octets) ≡ octets
 Holds (convolved_is rate octets written count state closed last) =
     (before room : List ℕ) → length before ≡ length written → length room ≡ length closed
-    → Convolves rate octets before room (record { answer = Done count; state = state }) written (Done last) closed
-Holds (encoded_is e i q frame block) = (before : List ℕ) → length before ≡ block_length i q → Encodes e i q frame before Accepted block
+    → Convolves rate octets before room (Ok count) state written (Ok last) closed
+Holds (encoded_is e i q frame block) = (before : List ℕ) → length before ≡ block_length i q → Encodes e i q frame before (Ok tt) block
 Holds (decoded_is e i q s block frame counts total) =
     (before : List ℕ) → length before ≡ frame_length e i q → Decodes e i q s block before Delivered counts total frame
 Holds (refused_by_ten e i q s block word) =
