@@ -23,9 +23,7 @@ pub(crate) fn with_text(text: Text, more: &[u8]) -> Text
     let start = text.len;
     let mut octets = text.octets;
     let n = more.len();
-    for i in 0..n {
-        octets[start + i] = more[i];
-    }
+    octets[start..start + n].copy_from_slice(more);
     Text {
         octets: octets,
         len: start + n,
