@@ -1,11 +1,10 @@
 -- A text that grows at its end holds what it held, followed by what was added.
-use mathlib.Core.Path.{◌≡◌, refl, sym, ap, ap₂, ◌∙◌}
+use mathlib.Core.Path.{◌≡◌, refl, ap, ap₂, ◌∙◌}
 use mathlib.Core.List.{List, ◌++◌, append_assoc}
-use Prim.Native.Nat.{ℕ, zero, suc, ◌+◌, ◌-◌, ◌<◌}
-use native.Mathlib.Numerals.{add-one}
+use Prim.Native.Nat.{ℕ, zero, suc, ◌+◌, ◌-◌}
 use native.Mathlib.Omega.{arith}
-use lib.ListN.{length, take, drop, get_or, set, replicate, length-append, length-replicate}
-use lib.Seq.{paste, paste-suc, length-paste, take_at, drop-append-add, take-length}
+use lib.ListN.{length, take, drop, replicate, length-append, length-replicate}
+use lib.Seq.{paste, length-paste, take_at, drop-append-add, take-length}
 use Rattle.report_lines.specs.declared.Text.{Text}
 use Rattle.report_lines.specs.Text.{Holds}
 use Rattle.report_lines.specs.Working.{Room, Added}
@@ -32,12 +31,6 @@ pasted before content more is =
     ∙ drop-zeros (length more) (96 - length content)
     ∙ zeros-same (96 - length content - length more) (96 - length (content ++ more)) (omega (arith, length-append content more)) in
     ap₂ {C = List ℕ} (λ (u v : List ℕ). u ++ v) (ap₂ {C = List ℕ} (λ (u v : List ℕ). u ++ v) front (take-length more)) back
-
--- One octet more is pasted.
-pub pasted_more : (before after : List ℕ) (at : ℕ) (more : List ℕ) (i : ℕ) → after ≡ paste before at more i → at + i < length before → i < length more
-    → set after (at + i) (get_or more i 0) ≡ paste before at more (i + 1)
-pasted_more before after at more i is room fits =
-    ap (λ (l : List ℕ). set l (at + i) (get_or more i 0)) is ∙ paste-suc before at more i 0 room fits ∙ ap (λ (n : ℕ). paste before at more n) (sym (add-one i))
 
 -- The octets of a text number 96.
 pub whole_length : (text : Text) (content : List ℕ) → Holds text content → length text.octets ≡ 96

@@ -4,33 +4,34 @@ ghost use Rattle.report_lines.specs.Lines.{decimal, block_text, line_end};
 ghost use Rattle.report_lines.specs.Text.{Holds, LineOutcome, ClosingOutcome};
 ghost use Rattle.report_lines.specs.Working.{Room, Added};
 
-use crate::texts::{empty, with_number, with_text};
 use crate::{ReportLine, Text};
 
 // What every line ends with: a word, its number, and the line's end.
-fn ended(text: Text, word: &[u8], number: u64, end: &[u8]) -> Text
+fn ended(mut text: Text, word: &[u8], number: u64, end: &[u8]) -> Text
     requires { Room text (length word.now + (20 + length end.now)) }
     ensures { Added text (word.now ++ (decimal number ++ end.now)) result }
 {
-    let worded = with_text(text, word);
-    let numbered = with_number(worded, number);
-    with_text(numbered, end)
+    text.push(word);
+    text.push_number(number);
+    text.push(end);
+    text
 }
 
 fn block_line(block: u64, word: &[u8], number: u64, end: &[u8]) -> Text
     requires { (length word.now ≤ 18) × (length end.now ≤ 10) }
     ensures { Holds result (block_text ++ (decimal block ++ (word.now ++ (decimal number ++ end.now)))) }
 {
-    let begun = with_text(empty(), b"block ");
-    let numbered = with_number(begun, block);
-    ended(numbered, word, number, end)
+    let mut text = Text::new();
+    text.push(b"block ");
+    text.push_number(block);
+    ended(text, word, number, end)
 }
 
 fn count_line(word: &[u8], number: u64) -> Text
     requires { length word.now ≤ 18 }
     ensures { Holds result (word.now ++ (decimal number ++ line_end)) }
 {
-    ended(empty(), word, number, b"\n")
+    ended(Text::new(), word, number, b"\n")
 }
 
 pub fn line(l: ReportLine) -> Text

@@ -6,37 +6,32 @@ ghost use Rattle.report_lines.specs.Working.{Room, Added};
 
 use crate::Text;
 
-pub(crate) fn empty() -> Text
-    ensures { Holds result [] }
-{
-    let none = [0u8; 96];
-    Text {
-        octets: none,
-        len: 0,
+impl Text {
+    pub(crate) fn new() -> Text
+        ensures { Holds result [] }
+    {
+        Text {
+            octets: [0; 96],
+            len: 0,
+        }
     }
-}
 
-pub(crate) fn with_text(text: Text, more: &[u8]) -> Text
-    requires { Room text (length more.now) }
-    ensures { Added text more.now result }
-{
-    let start = text.len;
-    let mut octets = text.octets;
-    let n = more.len();
-    for i in 0..n {
-        octets[start + i] = more[i];
+    pub(crate) fn push(&mut self, more: &[u8])
+        requires { Room self.old (length more.now) }
+        ensures { Added self.old more.now self.new }
+    {
+        let start = self.len;
+        let end = start + more.len();
+        self.octets[start..end].copy_from_slice(more);
+        self.len = end;
     }
-    Text {
-        octets: octets,
-        len: start + n,
-    }
-}
 
-pub(crate) fn with_number(text: Text, number: u64) -> Text
-    requires { Room text 20 }
-    ensures { Added text (decimal number) result }
-{
-    let mut digits = [0u8; 20];
-    let k = io::decimal(number, &mut digits);
-    with_text(text, &digits[..k])
+    pub(crate) fn push_number(&mut self, number: u64)
+        requires { Room self.old 20 }
+        ensures { Added self.old (decimal number) self.new }
+    {
+        let mut digits = [0u8; 20];
+        let k = io::decimal(number, &mut digits);
+        self.push(&digits[..k]);
+    }
 }

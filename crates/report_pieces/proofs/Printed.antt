@@ -9,18 +9,16 @@ use native.Mathlib.Omega.{arith}
 use lib.ListN.{length, take, length-append, length-replicate}
 use lib.Seq.{take_at, drop_at}
 use Rattle.refusals.specs.Order.{FirstOf}
-use Rattle.refusals.specs.Numbers.{parameter_number, verdict_number, word_number}
+use Rattle.std.specs.Prelude.{Ok, Err}
+use Rattle.refusals.specs.Numbers.{Verdict, parameter_number, verdict_number, word_number}
 use Rattle.refusals.specs.Calls.{transmit_order, receive_parameters, receive_order}
-use Rattle.refusals.specs.declared.Verdict.{Verdict}
 use Rattle.refusals.specs.declared.WordRefusal.TheVariants as word
 use Rattle.refusals.proofs.Orders.{first_unique, first_passes, clear_accepted}
 use Rattle.marker.specs.declared.Form.{Form}
 use Rattle.marker.specs.declared.Form.TheVariants.{True}
 use Rattle.marker.specs.Place.{fewest_wrong}
 use Rattle.chain.specs.declared.Stage.TheVariants.{Parameters, Marker, Word}
-use Rattle.chain.specs.declared.Received.{Received}
-use Rattle.chain.specs.declared.Received.TheVariants as received
-use Rattle.chain.specs.Outcome.{inverted_if, complemented, received_number, StageRefuses, TransmitOutcome}
+use Rattle.chain.specs.Outcome.{Received, Delivered, inverted_if, complemented, received_number, StageRefuses, TransmitOutcome}
 use Rattle.chain.proofs.Transmissions.{TransmitLegal, transmit_legal}
 use Rattle.chain.proofs.Receptions.{receive_numbers}
 use Rattle.chain.proofs.Conditions.{receive_undoes_transmit}
@@ -50,7 +48,7 @@ module _ (frame before : List ℕ) (v : Verdict) (marked : List ℕ) (O : Transm
   pub transmitted_line : (form : Form) (k : ℕ) (text : Text) → BlockReported k (inverted_if (complemented form) marked) text
       → Holds text (line_of (delivered_line k 0 (complemented form)))
   transmitted_line form k text R =
-      let undone : (R.answer ≡ received.Delivered) × (R.frame ≡ frame) × _ × (R.total ≡ 0) × (R.turned ≡ complemented form) =
+      let undone : (R.answer ≡ Delivered) × (R.frame ≡ frame) × _ × (R.total ≡ 0) × (R.turned ≡ complemented form) =
       receive_undoes_transmit 16 5 0 true frame before v marked O accepted form 16 3 (omega arith) (omega arith) empty_frame room R.answer R.counts R.total R.turned R.frame R.received in
       subst (λ (l : ReportLine). Holds text (line_of l))
       (ap (λ (answer : Received). answered_line k answer R.total R.turned) undone.0 ∙ ap₂ (delivered_line k) undone.3 undone.4) R.said
@@ -66,11 +64,11 @@ module _ (marked : List ℕ) (whole : length marked ≡ 1279) (over : 3 < fewest
 
   nine : (k : ℕ) (answer : Received) (total : ℕ) (turned : Bool) → received_number answer ≡ 9 → StageRefuses 16 5 0 16 3 marked empty_frame answer
       → answered_line k answer total turned ≡ Refused k 9
-  nine k received.Delivered total turned n stage = absurd (omega arith)
-  nine k (received.Refused (Parameters p)) total turned n stage = absurd (omega (arith, first_unique (receive_parameters 16 5 0 16 3 (length marked) (length empty_frame)) (parameter_number p) 0 stage passes))
-  nine k (received.Refused (Marker r)) total turned n stage = ap (λ (m : ℕ). Refused k m) n
-  nine k (received.Refused (Word (word.Parameters p))) total turned n stage = absurd (omega (arith, ap word_number stage.1))
-  nine k (received.Refused (Word (word.NoCodeword w))) total turned n stage = absurd (omega arith)
+  nine k (Ok done) total turned n stage = absurd (omega arith)
+  nine k (Err (Parameters p)) total turned n stage = absurd (omega (arith, first_unique (receive_parameters 16 5 0 16 3 (length marked) (length empty_frame)) (parameter_number p) 0 stage passes))
+  nine k (Err (Marker r)) total turned n stage = ap (λ (m : ℕ). Refused k m) n
+  nine k (Err (Word (word.Parameters p))) total turned n stage = absurd (omega (arith, ap word_number stage.1))
+  nine k (Err (Word (word.NoCodeword w))) total turned n stage = absurd (omega arith)
 
   -- Its line is "refused 9".
   pub over_tolerance_line : (k : ℕ) (text : Text) → BlockReported k marked text → Holds text (line_of (Refused k 9))

@@ -1,16 +1,14 @@
 -- What the report says of a piece of its input (document 01, "The report program"; document 02, (v)).
-use Rattle.std.specs.Prelude.{Bool, true, false, List, ℕ, ◌≤◌, ◌<◌, length, replicate}
+use Rattle.std.specs.Prelude.{Bool, true, false, Ok, Err, List, ℕ, ◌≤◌, ◌<◌, length, replicate}
 use Rattle.refusals.specs.Numbers.{parameter_number, marker_number}
 use Rattle.refusals.specs.declared.WordRefusal.TheVariants as word
 use Rattle.chain.specs.declared.Stage.{Stage}
 use Rattle.chain.specs.declared.Stage.TheVariants.{Parameters, Marker, Word}
-use Rattle.chain.specs.declared.Received.{Received}
-use Rattle.chain.specs.Outcome.{ReceiveOutcome}
+use Rattle.chain.specs.Outcome.{Received, ReceiveOutcome}
 use Rattle.report_lines.specs.declared.ReportLine.{ReportLine}
 use Rattle.report_lines.specs.declared.ReportLine.TheVariants.{Corrected, Inverted, Refused, Lost}
 use Rattle.report_lines.specs.declared.Text.{Text}
 use Rattle.report_lines.specs.Text.{LineOutcome, ClosingOutcome}
-use Rattle.chain.specs.declared.Received.TheVariants as received
 
 -- The line of a refused block: by 10 it names the word, by any other number that number.
 abbrev pub refused_line : ℕ → Stage → ReportLine
@@ -26,8 +24,8 @@ delivered_line block total false = Corrected block total
 
 -- The line of a block that receive answered so, with this total and this flag.
 abbrev pub answered_line : ℕ → Received → ℕ → Bool → ReportLine
-answered_line block received.Delivered total turned = delivered_line block total turned
-answered_line block (received.Refused stage) total turned = refused_line block stage
+answered_line block (Ok done) total turned = delivered_line block total turned
+answered_line block (Err stage) total turned = refused_line block stage
 
 -- A frame of zeros, which receive fills when it delivers.
 unfoldable pub empty_frame : List ℕ

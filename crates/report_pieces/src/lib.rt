@@ -2,33 +2,31 @@
 #![tactic(auto)]
 
 ghost use Rattle.std.specs.Prelude.{◌≡◌};
+ghost use Rattle.chain.specs.Outcome.{received_of, received_total, received_inverted};
 ghost use Rattle.report_pieces.specs.Pieces.{refused_line, delivered_line, answered_line, BlockReported, PieceOutcome};
 
-use chain::{Received, Stage};
-use refusals::WordRefusal;
+use chain::{Reception, Stage};
+use refusals::{Code, Refusal, WordRefusal};
 use report_lines::{ReportLine, Text};
+
+// The code of the report: E 16, I 5, Q 0.
+const CODE: Code = Code {
+    strength: 16,
+    depth: 5,
+    fill: 0,
+};
 
 fn refused_line(block: u64, stage: Stage) -> ReportLine
     ensures { result ≡ refused_line block stage }
 {
     match stage {
-        Stage::Parameters(p) => ReportLine::Refused {
+        Stage::Word(WordRefusal::NoCodeword(word)) => ReportLine::Lost {
             block,
-            number: refusals::parameter_number(p),
+            word: u64::from(word),
         },
-        Stage::Marker(refusal) => ReportLine::Refused {
+        other => ReportLine::Refused {
             block,
-            number: refusals::marker_number(refusal),
-        },
-        Stage::Word(refusal) => match refusal {
-            WordRefusal::Parameters(p) => ReportLine::Refused {
-                block,
-                number: refusals::parameter_number(p),
-            },
-            WordRefusal::NoCodeword(w) => {
-                let word = w as u64;
-                ReportLine::Lost { block, word }
-            }
+            number: u64::from(other.number()),
         },
     }
 }
@@ -36,19 +34,19 @@ fn refused_line(block: u64, stage: Stage) -> ReportLine
 fn delivered_line(block: u64, total: u32, inverted: bool) -> ReportLine
     ensures { result ≡ delivered_line block total inverted }
 {
-    let total = total as u64;
+    let total = u64::from(total);
     if inverted {
         return ReportLine::Inverted { block, total };
     }
     ReportLine::Corrected { block, total }
 }
 
-fn answered_line(block: u64, answer: Received, total: u32, inverted: bool) -> ReportLine
-    ensures { result ≡ answered_line block answer total inverted }
+fn answered_line(block: u64, answer: Result<Reception, Stage>) -> ReportLine
+    ensures { result ≡ answered_line block (received_of answer) (received_total answer) (received_inverted answer) }
 {
     match answer {
-        Received::Delivered => delivered_line(block, total, inverted),
-        Received::Refused(stage) => refused_line(block, stage),
+        Ok(Reception { total, inverted, .. }) => delivered_line(block, total, inverted),
+        Err(stage) => refused_line(block, stage),
     }
 }
 
@@ -56,9 +54,8 @@ fn block_text(block: u64, marked: &[u8]) -> Text
     ensures { BlockReported block marked.now result }
 {
     let mut frame = [0u8; 1115];
-    let reception = chain::receive(16, 5, 0, 16, 3, true, marked, &mut frame);
-    let answer = reception.answer;
-    report_lines::line(answered_line(block, answer, reception.total, reception.inverted))
+    let answer = chain::receive(CODE, 16, 3, true, marked, &mut frame);
+    report_lines::line(answered_line(block, answer))
 }
 
 pub fn piece(block: u64, octets: &[u8]) -> Text

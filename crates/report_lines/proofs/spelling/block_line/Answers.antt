@@ -12,4 +12,4 @@ ended-requires c =
 
 pub returns : goal.returns
 returns c =
-    (twice _ _ _ _ _ c.with_text-begun.ensures (twice _ _ _ _ _ c.with_number-numbered.ensures c.ended.ensures)).holds [] c.empty.ensures
+    (twice _ _ _ _ _ c.push.ensures (twice _ _ _ _ _ c.push_number.ensures c.ended.ensures)).holds [] c.new-text.ensures

@@ -4,4 +4,4 @@ use Rattle.report_lines.proofs.spelling.count_line.Goals as goal
 
 pub returns : goal.returns
 returns c =
-    c.ended.ensures.holds [] c.empty.ensures
+    c.ended.ensures.holds [] c.new.ensures
