@@ -8,9 +8,10 @@ use native.Mathlib.Numerals.{add-one}
 use native.Mathlib.Decide.{ℕ_discrete}
 use native.Mathlib.Omega.{arith}
 use lib.Dec.{eqb}
-use lib.ListN.{length, take, drop, get_or, set, length-set, length-append, take-append-drop}
+use lib.ListN.{length, take, drop, get_or, length-append, take-append-drop}
 use lib.Seq.{take_at, take-suc, length-take-le, drop-append-add, drop-drop}
 use borrow.Author.Tests.{eq-eqb, ne_eqb}
+use borrow.Rule.Slice.PartMut.{put_mid, same_len_mid, mid_len}
 use Rattle.reed_solomon.specs.Changes.{change, changes_from}
 use Rattle.reed_solomon.specs.SalvageWorking.{Alike, ChangePut, Listed}
 
@@ -29,17 +30,6 @@ change_most at old new = most (eqb old new)
     most true = omega arith
     most false = omega arith
 
--- four octets written one after the other
-four-set : (k : ℕ) (l : List ℕ) (a b c d : ℕ) → k + 4 ≤ length l
-    → set (set (set (set l k a) (k + 1) b) (k + 2) c) (k + 3) d ≡ take k l ++ (a ∷ b ∷ c ∷ d ∷ drop (k + 4) l)
-four-set zero [] a b c d h = absurd (omega arith)
-four-set zero (x ∷ []) a b c d h = absurd (omega arith)
-four-set zero (x ∷ y ∷ []) a b c d h = absurd (omega arith)
-four-set zero (x ∷ y ∷ z ∷ []) a b c d h = absurd (omega arith)
-four-set zero (x ∷ y ∷ z ∷ u ∷ l) a b c d h = refl
-four-set (suc k) [] a b c d h = absurd (omega arith)
-four-set (suc k) (x ∷ l) a b c d h = simp suc-add (ap {B = List ℕ} (λ (m : List ℕ). x ∷ m) (four-set k l a b c d (omega arith)))
-
 module _ (at old new entries : ℕ) (list : List ℕ) where
   pub change_absent : old ≡ new → ChangePut at old new entries list entries list
   change_absent e =
@@ -49,19 +39,21 @@ module _ (at old new entries : ℕ) (list : List ℕ) where
         size = refl;
       }
 
-  pub change_put : (old ≡ new → ⊥) → 4 * entries + 4 ≤ length list → (after : List ℕ)
-      → after ≡ set (set (set (set list (4 * entries) (at / 256)) (4 * entries + 1) (at % 256)) (4 * entries + 2) old) (4 * entries + 3) new
-      → ChangePut at old new entries list (entries + 1) after
-  change_put d h after is =
+  pub change_put : (old ≡ new → ⊥) → 4 * entries + 4 ≤ length list → (entry : List ℕ) → entry ≡ at / 256 ∷ at % 256 ∷ old ∷ new ∷ []
+      → ChangePut at old new entries list (entries + 1) (put_mid (4 * entries) (4 * entries + 4 - 4 * entries) list entry)
+  change_put d h entry is =
       record {
         entered = omega (arith, ap length (change_one at old new d));
-        list = is ∙ four-set (4 * entries) list (at / 256) (at % 256) old new h
-            ∙ ap₂ {C = List ℕ} (λ (l : List ℕ) (n : ℕ). take (4 * entries) list ++ (l ++ drop n list)) (sym (change_one at old new d)) next;
-        size = ap length is ∙ simp length-set;
+        list = ap₂ {C = List ℕ} (λ (l rest : List ℕ). take (4 * entries) list ++ (l ++ rest)) (is ∙ sym (change_one at old new d))
+            (drop-drop (4 * entries + 4 - 4 * entries) (4 * entries) list ∙ ap (λ (n : ℕ). drop n list) next);
+        size = same_len_mid (4 * entries) (4 * entries + 4 - 4 * entries) list entry (four ∙ sym (mid_len (4 * entries) (4 * entries + 4) list h));
       }
     where
-      next : 4 * entries + 4 ≡ 4 * (entries + 1)
+      next : 4 * entries + (4 * entries + 4 - 4 * entries) ≡ 4 * (entries + 1)
       next = omega arith
+
+      four : length entry ≡ 4 * entries + 4 - 4 * entries
+      four = ap length is ∙ omega arith
 
 -- ---- a run, octet by octet
 

@@ -18,7 +18,8 @@ pub struct Decoding {
     pub counts: [u8; 8],
 }
 
-// Which of eight words are repaired (1) or not (0), the number of differing symbols in each, and how many entries the list has.
+// Which of eight words are repaired (1) or not (0), the number of differing symbols in each, and how many entries the list has: what C's report has.
+// There are eight words at most, so its lists are arrays of fixed length, and no heap is needed.
 #[derive(Clone, Copy, Debug, PartialEq, Eq)]
 pub struct SalvageReport {
     pub marks: [u8; 8],

@@ -11,10 +11,8 @@ fn put_change(at: usize, old: u8, new: u8, entries: usize, list: &mut [u8]) -> u
         return entries;
     }
     let first = 4 * entries;
-    list[first] = (at / 256) as u8;
-    list[first + 1] = (at % 256) as u8;
-    list[first + 2] = old;
-    list[first + 3] = new;
+    let [high, low] = (at as u16).to_be_bytes();
+    list[first..first + 4].copy_from_slice(&[high, low, old, new]);
     entries + 1
 }
 

@@ -1,5 +1,6 @@
 // Salvage of a block: each word is repaired if it can be, and otherwise left as received.
-ghost use Rattle.std.specs.Prelude.{◌≡◌, ◌≤◌, ◌<◌, length};
+ghost use Rattle.std.specs.Prelude.{◌≡◌, ◌≤◌, ◌<◌, length, is_some, unwrap_or};
+ghost use Rattle.std.specs.Int.{from_bool};
 ghost use Rattle.refusals.specs.Numbers.{verdict_of};
 ghost use Rattle.reed_solomon.specs.DecoderWorking.{CodedBy, WordRows};
 ghost use Rattle.reed_solomon.specs.Salvaging.{marks_of, repairs_of, entries_of, SalvageOutcome};
@@ -11,14 +12,7 @@ use crate::listing::put_changes;
 use octets::copy_front;
 use refusals::{Code, Parameter};
 
-// A word's mark and its count.
-#[derive(Clone, Copy)]
-struct WordSalvage {
-    mark: u8,
-    count: u8,
-}
-
-// Which words are repaired, and their counts.
+// Which words are repaired, and their counts: two lists, as the report and its specification have them.
 #[derive(Clone, Copy)]
 struct WordsSalvage {
     marks: [u8; 8],
@@ -26,23 +20,20 @@ struct WordsSalvage {
 }
 
 impl Given<'_> {
-    // Word w with its errors added, checks and all: a word for which no codeword is found has no errors, and so stays as received.
-    fn salvage_word(&self, w: usize, row: &[u8; 32], mended: &mut [u8]) -> WordSalvage
+    // Word w with its errors added, checks and all, and its count if it has a codeword: without one it has no errors, and so stays as received.
+    fn salvage_word(&self, w: usize, row: &[u8; 32], mended: &mut [u8]) -> Option<u8>
         requires { (2040 ≤ length mended.old) × (w < self.now.depth) × CodedBy self.now.strength self.now.depth self.now.fill self.now.block.now w row.now }
-        ensures { WordPut self.now.strength self.now.depth self.now.fill self.now.allowance self.now.block.now w mended.old result.mark result.count mended.new }
+        ensures { WordPut self.now.strength self.now.depth self.now.fill self.now.allowance self.now.block.now w mended.old (from_bool (is_some result)) (unwrap_or result 0) mended.new }
     {
         let sent = 255 - self.fill;
         match self.word_errors(w, row) {
             Some(found) => {
                 self.put_repaired(w, &found.errors, sent, mended);
-                WordSalvage {
-                    mark: 1,
-                    count: found.count as u8,
-                }
+                Some(found.count as u8)
             }
             None => {
                 self.put_repaired(w, &[0; 255], sent, mended);
-                WordSalvage { mark: 0, count: 0 }
+                None
             }
         }
     }
@@ -55,9 +46,9 @@ impl Given<'_> {
         let mut counts = [0u8; 8];
         // By the word's number, by which its row, its mark and its count have their places.
         for w in 0..self.depth {
-            let word = self.salvage_word(w, &rows[w], mended);
-            marks[w] = word.mark;
-            counts[w] = word.count;
+            let count = self.salvage_word(w, &rows[w], mended);
+            marks[w] = u8::from(count.is_some());
+            counts[w] = count.unwrap_or(0);
         }
         WordsSalvage { marks, counts }
     }
