@@ -63,7 +63,8 @@ fn all_marked(depth: usize) -> [u8; 8]
     marks
 }
 
-// The frame is the front of the repaired block, whose words are interleaved in the same way.
+// The frame is the front of the repaired block, whose words are interleaved in the same way. The first steps are those of `decode`, which
+// ends in a refusal of another type.
 pub fn salvage(
     code: Code,
     s: u32,
