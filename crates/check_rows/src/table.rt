@@ -5,7 +5,7 @@ ghost use Rattle.check_rows.specs.Working.{BitRow, SumPut, Doubled};
 
 use std::array;
 
-// The row of one bit, copied out.
+// The row of one bit, copied out. `words` copies its rows out by a function of its own: neither crate stands on the other.
 fn bit_row(rows: &[u8; 256], bit: usize) -> [u8; 32]
     requires { bit < 8 }
     ensures { BitRow rows.now bit result }

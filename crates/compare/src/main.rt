@@ -11,7 +11,7 @@ use pages::Words;
 use refusals::Code;
 use std::io;
 
-// No fill, one symbol, the middle, and all information symbols but one.
+// No fill, one symbol, the middle, and all information symbols but one. `vectors` goes over the same fills, to calls of its own.
 fn fills(rt: &impl Print, strength: u32, depth: u32) -> io::Result<()>
     requires { (1 ≤ strength) × (strength ≤ 16) × (depth ≤ 8) }
 {

@@ -18,7 +18,7 @@ use running::run_on;
 use writing::{last_octet, top_bits};
 
 // What the coder carries from call to call: the last six bits, the newest lowest; the place in the puncture period; how many symbols are
-// held, 0 to 7; and those symbols, top bit first. All zero at the start.
+// held, 0 to 7; and those symbols, top bit first: four numbers, as C has them. All zero at the start.
 #[derive(Clone, Copy, Debug, PartialEq, Eq)]
 pub struct State {
     pub register: u8,

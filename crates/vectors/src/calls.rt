@@ -7,6 +7,7 @@ use reed_solomon::SalvageReport;
 use refusals::{Code, Refusal, verdict_number};
 use std::io;
 
+// What is printed of a refusal: a line has a number and a report, as C has them.
 const NOTHING_SALVAGED: SalvageReport = SalvageReport {
     marks: [0; 8],
     counts: [0; 8],

@@ -43,7 +43,7 @@ fn received_at_most(
     received(rt, code, code.strength, 3, randomised, marked, frame)
 }
 
-// All bits.
+// All bits, not by the library's own function: what is tried does not make what it is tried with.
 fn invert(s: &mut [u8]) {
     for octet in s {
         *octet = !*octet;

@@ -150,7 +150,7 @@ fn octet_and_close(rt: &impl Print, rate: u32, state: State, output: usize) -> i
     closed(rt, rate, state, 1)
 }
 
-// With seven symbols held an octet fills two octets at any rate.
+// With seven symbols held an octet fills two octets at any rate. Limit after limit, each by itself: a case names the number that it is about.
 fn place_limits(rt: &impl Print, rate: u32, period: u8) -> io::Result<()>
     requires { 1 ≤ period }
 {

@@ -51,7 +51,7 @@ fn cut(rt: &impl Print, words: Words) -> io::Result<()> {
     encode(rt, code, frame, &mut whole[..sent])
 }
 
-// No fill, one symbol, the middle, and all information symbols but one.
+// No fill, one symbol, the middle, and all information symbols but one. `compare` goes over the same fills, to calls of its own.
 fn fills(rt: &impl Print, strength: u32, depth: u32) -> io::Result<()>
     requires { (1 ≤ strength) × (strength ≤ 16) × (depth ≤ 8) }
 {

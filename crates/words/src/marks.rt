@@ -7,7 +7,7 @@ use crate::locators::LOCATORS;
 use crate::polynomials::{by_root, pair};
 use crate::register::{polynomial, shortest_register};
 
-// A mark for each symbol of a word, zero where it is not doubtful; and how many are marked.
+// A mark for each symbol of a word, zero where it is not doubtful; and how many are marked, which is no length.
 #[derive(Clone, Copy)]
 pub(crate) struct Marks<'a> {
     pub(crate) marks: &'a [u8],

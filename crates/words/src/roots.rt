@@ -59,7 +59,7 @@ impl Roots {
     }
 }
 
-// A polynomial of so many coefficients in each of three parts.
+// A polynomial of so many coefficients in each of three parts: a third of its length, which every turn asks for.
 #[derive(Clone, Copy)]
 pub(crate) struct Parted<'a> {
     pub(crate) lambda: &'a [u8],
