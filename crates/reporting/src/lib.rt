@@ -56,6 +56,8 @@ fn complete(rt: &impl Eprint, input: &mut impl Read, piece: usize) -> io::Result
     Ok(last)
 }
 
+// Without a contract: it reads its input to the end, and what `Print` has written no clause can say. What it writes is proved piece by piece in
+// report_pieces: the texts of `piece`, one after the other, are the report (`pieces_make_the_report`).
 // No input reaches the range's end: it would have 2^64 blocks.
 pub fn report(rt: &(impl Print + Eprint), input: &mut impl Read) -> io::Result<()> {
     for block in 0..u64::MAX {
