@@ -45,7 +45,7 @@ fn answered_line(block: u64, answer: Result<Reception, Stage>) -> ReportLine
     ensures { result ≡ answered_line block (received_of answer) (received_total answer) (received_inverted answer) }
 {
     match answer {
-        Ok(Reception { total, inverted, .. }) => delivered_line(block, total, inverted),
+        Ok(done) => delivered_line(block, done.total, done.inverted),
         Err(stage) => refused_line(block, stage),
     }
 }

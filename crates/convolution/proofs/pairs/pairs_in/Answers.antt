@@ -22,7 +22,7 @@ loop-i-preserved c =
     let octets = c.args.octets.now in
     let inside : at.i < length octets = omega arith in
     let put =
-        subst (λ (r : ℕ). PairPut at.symbols (2 * at.i) r (get_or octets at.i 0) c.put_pair-in-loop-i.new.symbols) c.from-register.ensures c.put_pair-in-loop-i.ensures in (
+    subst (λ (r : ℕ). PairPut at.symbols (2 * at.i) r (get_or octets at.i 0) c.put_pair-in-loop-i.new.symbols) c.from-register.ensures c.put_pair-in-loop-i.ensures in (
       omega arith,
       omega arith,
       c.put_pair-in-loop-i.ensures.long ∙ at.invariant.2,
