@@ -41,6 +41,7 @@ impl Given<'_> {
     }
 
     // The first n symbols of word w, each with its error added, put into their places of a frame.
+    // The frame's room is asked for as a length, here and by the callers: what is put needs room for the longest block, not a frame of one length.
     pub(crate) fn put_repaired(&self, w: usize, errors: &[u8; 255], n: usize, frame: &mut [u8])
         requires { (w < self.now.depth) × (n ≤ 255 - self.now.fill) × (2040 ≤ length frame.old) }
         ensures { Put self.now.depth w n self.now.block.now errors.now frame.old frame.new }
