@@ -117,6 +117,7 @@ fn noise(often: u8, symbols: &mut [u8])
     requires { length symbols.old ≤ 512 }
 {
     let mut y = u32::from(often);
+    // By the symbol's number: eight of them are in each octet.
     for place in 0..8 * symbols.len() {
         y = turn(y);
         if pages::drawn(y) < often {

@@ -40,7 +40,8 @@ fn whole(rt: &impl Print, words: Words, s: u32, block: &[u8]) -> io::Result<()> 
     salvaged(rt, words.code, s, block, frame, list)
 }
 
-// So many octets changed by drawn values, from the last on, each so many places before the one before.
+// So many octets changed by drawn values, from the last on, each so many places before the one before; at the front it stays there, where a range
+// would end.
 fn wear_word(block: &mut [u8], last: usize, step: usize, wrong: u8, seed: u32) {
     let mut at = last;
     let mut y = seed;

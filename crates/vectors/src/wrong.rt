@@ -13,7 +13,8 @@ pub(crate) fn change(s: &mut [u8], at: usize, added: u8) {
     }
 }
 
-// So many octets changed, from `start` on, each so many places after the one before.
+// So many octets changed, from `start` on, each so many places after the one before: a step may be 0, which `step_by` does not take, and a place
+// may lie past the end, which is passed over.
 pub(crate) fn changes(s: &mut [u8], start: usize, step: usize, wrong: usize, added: u8) {
     let mut at = start;
     for _ in 0..wrong {
