@@ -23,8 +23,9 @@ use Rattle.encoding.proofs.CodedBlocks.{EncodeLegal, encode_legal}
 use Rattle.encoding.proofs.Settled.{coded_unique}
 use Rattle.reed_solomon.proofs.Deliverable.{SomeLost}
 use Rattle.reed_solomon.proofs.DecodeSettled.{decode_settled}
+use Rattle.chain.specs.declared.Stage.{Stage}
 use Rattle.chain.specs.declared.Stage.TheVariants.{Parameters, Marker, Word}
-use Rattle.chain.specs.Outcome.{randomised_if, complemented, block_in, said_inverted, received_number, word_stage, Transmitted, TransmitOutcome, StageRefuses, AsDecode, ReceiveOutcome}
+use Rattle.chain.specs.Outcome.{randomised_if, complemented, block_in, said_inverted, stage_number, stage_value, received_number, word_stage, Transmitted, TransmitOutcome, StageRefuses, AsDecode, ReceiveOutcome}
 use Rattle.chain.proofs.Opening.{randomised-length}
 use Rattle.chain.proofs.Transmissions.{block_passes}
 use Rattle.chain.proofs.Stages.{decoded_past}
@@ -133,3 +134,16 @@ module _ (e i q s t : ℕ) (flag : Bool) (marked before : List ℕ) where
         let same : Same = all_but_said in
         let turned : x ≡ y = A.said ∙ ap (λ (answer : Received). said_inverted answer (complemented (form_at marked 0))) same.0 ∙ sym B.said in
         (same.0, same.1, same.2, turned, same.3)
+
+-- ---- a stage's refusal
+
+module _ (stage : Stage) where
+  pub stage_number_settled : (m n : ℕ) → m ≡ stage_number stage → n ≡ stage_number stage → m ≡ n
+  stage_number_settled m n a b = a ∙ sym b
+
+  pub stage_value_settled : (m n : ℕ) → m ≡ stage_value stage → n ≡ stage_value stage → m ≡ n
+  stage_value_settled m n a b = a ∙ sym b
+
+  -- What is made of a refusal, whichever of the three stages it is of.
+  pub stage_from_settled : (a b : Stage) → a ≡ stage → b ≡ stage → a ≡ b
+  stage_from_settled a b A B = A ∙ sym B

@@ -5,7 +5,7 @@ use Prim.Native.Nat.{ℕ, ◌+◌, ◌*◌, ◌/◌, ◌%◌, ◌<◌}
 use native.Mathlib.Omega.{arith}
 use lib.ListN.{get_or}
 use lib.Seq.{ext_get_or}
-use Rattle.check_rows.specs.Rows.{added_at, table_at, SumTable, Stepped}
+use Rattle.check_rows.specs.Rows.{added_at, table_at, SumTable, RowAdded, Stepped}
 
 pub table_of_settled : (rows a b : List ℕ) → SumTable rows a → SumTable rows b → a ≡ b
 table_of_settled rows a b A B =
@@ -21,6 +21,9 @@ table_of_settled rows a b A B =
 
     rest : (n : ℕ) → n % 32 < 32
     rest n = omega arith
+
+pub added_to_settled : (adds : ℕ → ℕ) (row a b : List ℕ) → RowAdded adds row a → RowAdded adds row b → a ≡ b
+added_to_settled adds row a b A B = ext_get_or 0 a b (A.size ∙ sym B.size) (λ j h. A.octet j (omega (arith, A.size)) ∙ sym (B.octet j (omega (arith, A.size))))
 
 pub stepped_settled : (adds : ℕ → ℕ → ℕ) (row : List ℕ) (symbol : ℕ) (a b : List ℕ) → Stepped adds row symbol a → Stepped adds row symbol b → a ≡ b
 stepped_settled adds row symbol a b A B = ext_get_or 0 a b (A.size ∙ sym B.size) (λ j h. A.octet j (omega (arith, A.size)) ∙ sym (B.octet j (omega (arith, A.size))))

@@ -83,27 +83,8 @@ module _ (held holds symbols n : ℕ) (few : holds < 8) (some : 8 ≤ n) (most :
 -- ---- a group goes in
 
 module _ (rate : ℕ) (octets before : List ℕ) (p : Progress) (g : Group) (grouped : Grouped rate g) (under : Underway rate octets before p) (first-place : p.flow.place ≡ 0) (within : p.read + g.octets ≤ length octets)
-    (w x y v : ℕ)
-    (stands : let part = slice_range octets p.read (p.read + g.octets) in (w / 2 ^ (8 * length part) ≡ p.flow.register) × (low_bits (8 * length part) w ≡ bits_of part))
-    (added-g1 : x ≡ added 2 4 8 64 w) (added-g2 : y ≡ added 4 8 32 64 w) (sent : v ≡ symbols_by g x y) where
-  by-g1 : SumsBy g1 w x
-  by-g1 = all-g1 w x added-g1
-
-  by-g2 : SumsBy g2 w y
-  by-g2 = all-g2 w y added-g2
-
-  part_is : slice_range octets p.read (p.read + g.octets) ≡ take g.octets (drop p.read octets)
-  part_is = ap (λ (n : ℕ). take n (drop p.read octets)) (omega arith)
-
-  long : length (slice_range octets p.read (p.read + g.octets)) ≡ g.octets
-  long = ap length part_is ∙ length-take-le g.octets (drop p.read octets) (omega (arith, length-drop p.read octets))
-
-  above : w / 2 ^ (8 * g.octets) ≡ p.flow.register
-  above = ap (λ (n : ℕ). w / 2 ^ (8 * n)) (sym long) ∙ stands.0
-
-  below : low_bits (8 * g.octets) w ≡ bits_of (take g.octets (drop p.read octets))
-  below = ap (λ (n : ℕ). low_bits (8 * n) w) (sym long) ∙ stands.1 ∙ ap bits_of part_is
-
+    (w x y v : ℕ) (above : w / 2 ^ (8 * g.octets) ≡ p.flow.register) (below : low_bits (8 * g.octets) w ≡ bits_of (take g.octets (drop p.read octets)))
+    (by-g1 : SumsBy g1 w x) (by-g2 : SumsBy g2 w y) (sent : v ≡ symbols_by g x y) where
   abbrev s : Flow
   s = p.flow
 
@@ -190,6 +171,32 @@ module _ (rate : ℕ) (octets before : List ℕ) (p : Progress) (g : Group) (gro
           within = within;
           fits = subst (λ (n : ℕ). p.written + g.filled ≤ n) (sym put.long) group_room;
         }
+
+-- The same of sums that were made at once, of the group's octets and the register before them in one number.
+module _ (rate : ℕ) (octets before : List ℕ) (p : Progress) (g : Group) (grouped : Grouped rate g) (under : Underway rate octets before p) (first-place : p.flow.place ≡ 0) (within : p.read + g.octets ≤ length octets)
+    (w x y v : ℕ)
+    (stands : let part = slice_range octets p.read (p.read + g.octets) in (w / 2 ^ (8 * length part) ≡ p.flow.register) × (low_bits (8 * length part) w ≡ bits_of part))
+    (added-g1 : x ≡ added 2 4 8 64 w) (added-g2 : y ≡ added 4 8 32 64 w) (sent : v ≡ symbols_by g x y) where
+  part_is : slice_range octets p.read (p.read + g.octets) ≡ take g.octets (drop p.read octets)
+  part_is = ap (λ (n : ℕ). take n (drop p.read octets)) (omega arith)
+
+  long : length (slice_range octets p.read (p.read + g.octets)) ≡ g.octets
+  long = ap length part_is ∙ length-take-le g.octets (drop p.read octets) (omega (arith, length-drop p.read octets))
+
+  above : w / 2 ^ (8 * g.octets) ≡ p.flow.register
+  above = ap (λ (n : ℕ). w / 2 ^ (8 * n)) (sym long) ∙ stands.0
+
+  below : low_bits (8 * g.octets) w ≡ bits_of (take g.octets (drop p.read octets))
+  below = ap (λ (n : ℕ). low_bits (8 * n) w) (sym long) ∙ stands.1 ∙ ap bits_of part_is
+
+  pub group_room_by_sums : p.written + g.filled ≤ length before
+  group_room_by_sums = group_room rate octets before p g grouped under first-place within w x y v above below (all-g1 w x added-g1) (all-g2 w y added-g2) sent
+
+  pub group_turned_by_sums : (out : ℕ) (after : List ℕ) → low_bits (8 * g.filled) out ++ low_bits p.flow.holds v ≡ low_bits p.flow.holds p.flow.held ++ low_bits (8 * g.filled) v →
+      Put before p.written out g.filled after →
+      Turned rate octets before p after
+      (record { flow = record { register = w % 64; place = 0; held = v % 128; holds = p.flow.holds }; read = p.read + g.octets; written = p.written + g.filled })
+  group_turned_by_sums = group_turned rate octets before p g grouped under first-place within w x y v above below (all-g1 w x added-g1) (all-g2 w y added-g2) sent
 
 -- ---- an octet goes in
 

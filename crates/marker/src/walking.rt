@@ -34,7 +34,9 @@ fn window_before(stream: &[u8], start: u64) -> u32
 }
 
 impl<'a> Hunt<'a> {
-    // The window is carried from bit to bit, so that a place costs one shift. Where a step starts is its own, and asked of each.
+    // The window is carried from bit to bit, so that a place costs one shift. Where a step starts is its own, and asked of each. Put in place at each call:
+    // a search that ends at its first places takes a quarter longer otherwise.
+    #[inline(always)]
     pub(crate) fn walk(&self, start: u64, budget: u64) -> Searched
         requires { start ≤ 8 * length self.now.stream.now }
         ensures { Looked self.now.tolerance self.now.stream.now start budget result }

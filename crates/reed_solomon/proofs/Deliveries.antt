@@ -124,7 +124,7 @@ module _ (e i q s : ℕ) (block frame : List ℕ) where
 
   module _ (counts : List ℕ) (total : ℕ) (repaired : List ℕ) (R : Sofar e i q s block repaired counts total i) where
     -- every word is good, and the list holds them repaired
-    words_delivered : Delivery e i q s block repaired counts total
+    pub words_delivered : Delivery e i q s block repaired counts total
     words_delivered =
         record {
           codewords = λ w. (chosen w).0;

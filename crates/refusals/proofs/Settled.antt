@@ -6,12 +6,15 @@ use Prim.Native.Nat.{ℕ}
 use lib.ListN.{get_or}
 use Rattle.refusals.specs.Order.{Check, FirstOf, OneOf, Tells}
 use Rattle.refusals.specs.Sizes.{strengths}
-use Rattle.refusals.specs.Numbers.{parameter_number, verdict_number, Verdict, marker_number}
+use Rattle.refusals.specs.Numbers.{parameter_number, verdict_number, Verdict, marker_number, marker_value, word_number, word_value}
 use Rattle.refusals.specs.Calls.{encode_order, portion_order, close_order, decode_parameters, salvage_order, randomise_order, convolve_order, coder_close_order, likeliest_order, marker_parameters, search_order, transmit_order, receive_parameters}
 use Rattle.refusals.specs.declared.Parameter.{Parameter}
 use Rattle.refusals.specs.declared.Parameter.TheVariants.{Strength, Depth, Fill, Allowance, Input, Output, Rate, Tolerance, Start, Progress}
 use Rattle.std.specs.Prelude.{Ok, Err}
 use Rattle.refusals.specs.declared.MarkerRefusal.{MarkerRefusal}
+use Rattle.refusals.specs.declared.MarkerRefusal.TheVariants as marker
+use Rattle.refusals.specs.declared.WordRefusal.{WordRefusal}
+use Rattle.refusals.specs.declared.WordRefusal.TheVariants as word
 use Rattle.refusals.proofs.Orders.{first_unique}
 
 -- ---- a verdict is known by its number
@@ -110,3 +113,24 @@ module _ (m n : ℕ) where
 
   pub marker_number_settled : (r : MarkerRefusal) → m ≡ marker_number r → n ≡ marker_number r → m ≡ n
   marker_number_settled r a b = a ∙ sym b
+
+  pub word_number_settled : (r : WordRefusal) → m ≡ word_number r → n ≡ word_number r → m ≡ n
+  word_number_settled r a b = a ∙ sym b
+
+  pub parameter_value_settled : (p : Parameter) → m ≡ 0 → n ≡ 0 → m ≡ n
+  parameter_value_settled p a b = a ∙ sym b
+
+  pub marker_value_settled : (r : MarkerRefusal) → m ≡ marker_value r → n ≡ marker_value r → m ≡ n
+  marker_value_settled r a b = a ∙ sym b
+
+  pub word_value_settled : (r : WordRefusal) → m ≡ word_value r → n ≡ word_value r → m ≡ n
+  word_value_settled r a b = a ∙ sym b
+
+-- ---- and each refusal that is made of a parameter
+
+module _ (p : Parameter) where
+  pub marker_from_settled : (a b : MarkerRefusal) → a ≡ marker.Parameters p → b ≡ marker.Parameters p → a ≡ b
+  marker_from_settled a b A B = A ∙ sym B
+
+  pub word_from_settled : (a b : WordRefusal) → a ≡ word.Parameters p → b ≡ word.Parameters p → a ≡ b
+  word_from_settled a b A B = A ∙ sym B

@@ -4,5 +4,5 @@
 use std::io;
 
 fn main(rt: HostRuntime) -> io::Result<()> {
-    reporting::report(&rt, &mut rt.stdin())
+    reporting::report(&rt, &mut rt.stdin(), &mut io::writer(&rt))
 }

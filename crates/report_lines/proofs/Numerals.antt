@@ -56,7 +56,7 @@ tested_twenty r n false test small few =
     let power : 10 ^ 20 ≤ 10 ^ (r - 1) = pow-le-pow_right {n = 10} (omega arith) {i = 20} {j = r - 1} (omega arith) in
     omega (arith, few.2 (omega arith))
 
-at_most_twenty : (r n : ℕ) → n < 18446744073709551616 → IsDigitCount 10 1 n r → r ≤ 20
+pub at_most_twenty : (r n : ℕ) → n < 18446744073709551616 → IsDigitCount 10 1 n r → r ≤ 20
 at_most_twenty r n small few = tested_twenty r n (leb r 20) refl small few
 
 pub printed : (r n : ℕ) → n < 18446744073709551616 → IsDigitCount 10 1 n r → last_digits 10 r n ≡ decimal n

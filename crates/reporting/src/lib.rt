@@ -1,10 +1,13 @@
 // The report program: it reads marked, randomised blocks and writes what the library says of each.
 #![tactic(auto)]
 
-ghost use Rattle.std.specs.Prelude.{◌≡◌, ◌≤◌, length, IfOk};
+ghost use Rattle.std.specs.Prelude.{◌≡◌, ◌⊎◌, ◌≤◌, ◌<◌, length, take, IfOk, OnOk};
+ghost use Rattle.std.specs.Io.KnownBytes.{Consumes, IsAtEnd};
+ghost use Rattle.reporting.specs.Working.{EndTold, CompleteTold, PieceReported, PieceCut};
+ghost use Rattle.reporting.specs.Reported.{ReportOutcome, OnlyReported};
 
 use std::io;
-use std::io::Read;
+use std::io::{Eprint, Read, Write};
 
 // The octets of a marked block.
 const BLOCK: usize = 1279;
@@ -24,8 +27,10 @@ fn told<T>(rt: &impl Eprint, outcome: io::Result<T>, failure: &str) -> io::Resul
 }
 
 // One read may give less than there is room for. Only the end of the input leaves a piece short.
-fn read_piece(input: &mut impl Read, octets: &mut [u8]) -> io::Result<usize>
-    ensures { IfOk result (λ n. n ≤ length octets.new) }
+fn read_piece<R: Read>(input: &mut R, octets: &mut [u8]) -> io::Result<usize>
+    ensures within { IfOk result (λ n. n ≤ length octets.new) }
+    ensures read { IfOk result (λ n. Consumes (R.remaining input.old) (R.remaining input.new) (take n octets.new)) }
+    ensures end { IfOk result (λ n. n < length octets.new → IsAtEnd (R.remaining input.new)) }
 {
     let mut filled = 0;
     while filled < octets.len() {
@@ -39,13 +44,18 @@ fn read_piece(input: &mut impl Read, octets: &mut [u8]) -> io::Result<usize>
 }
 
 // After a short piece one more read tells the input's end from a gap in it, behind which more comes.
-fn ended(input: &mut impl Read) -> io::Result<bool> {
+fn ended<R: Read>(input: &mut R) -> io::Result<bool>
+    ensures { IfOk result (λ last. EndTold last (R.remaining input.old) (R.remaining input.new)) }
+{
     let mut more = [0u8; 1];
     Ok(input.read(&mut more)? == 0)
 }
 
 // A gap is told as a failed read is, and no line is written for the piece before it.
-fn complete(rt: &impl Eprint, input: &mut impl Read, piece: usize) -> io::Result<bool> {
+fn complete<R: Read>(rt: &impl Eprint, input: &mut R, piece: usize) -> io::Result<bool>
+    requires { piece ≤ 1279 }
+    ensures { IfOk result (λ complete. CompleteTold piece complete (R.remaining input.old) (R.remaining input.new)) }
+{
     if piece == BLOCK {
         return Ok(true);
     }
@@ -56,21 +66,37 @@ fn complete(rt: &impl Eprint, input: &mut impl Read, piece: usize) -> io::Result
     Ok(last)
 }
 
-// Without a contract: it reads its input to the end, and what `Print` has written no clause can say. What it writes is proved piece by piece in
-// report_pieces: the texts of `piece`, one after the other, are the report (`pieces_make_the_report`).
+// How many octets the piece has of which the text was written; of one before a gap none is.
+fn report_piece<R: Read, W: Write>(
+    rt: &impl Eprint,
+    input: &mut R,
+    output: &mut W,
+    block: u64,
+) -> io::Result<usize>
+    ensures { IfOk result (λ n.
+        PieceReported block n (R.remaining input.old) (R.remaining input.new) (W.contents output.old) (W.contents output.new)
+        ⊎ PieceCut n (R.remaining input.old) (W.contents output.old) (W.contents output.new)) }
+{
+    let mut octets = [0u8; BLOCK];
+    let read = read_piece(input, &mut octets);
+    let n = told(rt, read, READ_FAILED)?;
+    if !complete(rt, input, n)? {
+        return Ok(0);
+    }
+    let text = report_pieces::piece(block, &octets[..n]);
+    told(rt, output.write_all(&text.octets[..text.len]), WRITE_FAILED)?;
+    Ok(n)
+}
+
+// No clause can say what standard input gives or standard output takes: this one speaks of readers and writers that say what they hold, and the same code serves both.
 // No input reaches the range's end: it would have 2^64 blocks.
-pub fn report(rt: &(impl Print + Eprint), input: &mut impl Read) -> io::Result<()> {
+pub fn report<R: Read, W: Write>(rt: &impl Eprint, input: &mut R, output: &mut W) -> io::Result<()>
+    ensures known { OnOk result (ReportOutcome (R.remaining input.old) (R.remaining input.new) (W.contents output.old) (W.contents output.new)) }
+    ensures any { OnOk result (OnlyReported (W.contents output.old) (W.contents output.new)) }
+{
     for block in 0..u64::MAX {
-        let mut octets = [0u8; BLOCK];
-        let read = read_piece(input, &mut octets);
-        let n = told(rt, read, READ_FAILED)?;
-        if !complete(rt, input, n)? {
-            break;
-        }
-        let text = report_pieces::piece(block, &octets[..n]);
-        told(rt, rt.write_all(&text.octets[..text.len]), WRITE_FAILED)?;
-        if n < BLOCK {
-            break;
+        if report_piece(rt, input, output, block)? < BLOCK {
+            return Ok(());
         }
     }
     Ok(())

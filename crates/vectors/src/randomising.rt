@@ -1,6 +1,6 @@
 // The sequence, and the randomiser at its limits.
 use pages::{Buffer, fill};
-use randomiser::{Register, randomise};
+use randomiser::{Register, next_bits, randomise};
 use refusals::verdict_number;
 use std::io;
 
@@ -9,7 +9,7 @@ fn first_bits(rt: &impl Print) -> io::Result<()> {
     let mut register = Register { bits: 0xFF };
     print!(rt; "sequence")?;
     for _ in 0..5 {
-        print!(rt; " {:08b}", register.next())?;
+        print!(rt; " {:08b}", next_bits(&mut register.bits))?;
     }
     println!(rt; "")
 }
@@ -18,7 +18,7 @@ fn first_bits(rt: &impl Print) -> io::Result<()> {
 fn contents(rt: &impl Print) -> io::Result<()> {
     for bits in 0..=255u8 {
         let mut register = Register { bits };
-        let octet = register.next();
+        let octet = next_bits(&mut register.bits);
         println!(rt; "register {octet:02x} {:02x}", register.bits)?;
     }
     Ok(())
